@@ -1,0 +1,17 @@
+// Bytes laid into a lent buffer.
+ghost use mathlib.Core.Path.{_≡_};
+ghost use Prim.Native.Nat.{_+_, _≤_};
+ghost use lib.ListN.{length, replicate};
+ghost use Rattle.buffer.specs.Splice.{splice};
+
+// n bytes b from place at on.
+pub fn fill(dst: &mut [u8], at: usize, n: usize, b: u8)
+    requires { ⌜ at + n ≤ length (now dst) ⌝ }
+    ensures { λ r. ⌜ now (dst .exit) ≡ splice (now (dst .entry)) at (replicate n b) ⌝ }
+{
+    let mut i: usize = 0;
+    while i < n {
+        dst[at + i] = b;
+        i += 1;
+    }
+}

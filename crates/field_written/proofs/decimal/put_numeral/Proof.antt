@@ -1,0 +1,81 @@
+use native.Mathlib.Omega.{arith}
+use Rattle.number.proofs.DigitLaws.{length-digits}
+use Rattle.buffer.proofs.Splicing.{splice-then}
+use borrow.Author.Needs.{needs}
+use Rattle.field_written.proofs.decimal.put_numeral.Statement.{statement}
+use Rattle.field_written.proofs.decimal.put_numeral.Tie as tie
+use Rattle.field_written.proofs.decimal.put_numeral.Reads as reads
+use Rattle.field_written.proofs.decimal.put_numeral.Lts as lts
+use Rattle.buffer.proofs.fill.Reads as fill-reads
+use Rattle.field_written.proofs.parts.put_digits.Reads as put-digits-reads
+use Rattle.field_written.proofs.parts.put_sign.Reads as put-sign-reads
+use Rattle.field_written.proofs.parts.sign_width.Reads as sign-width-reads
+
+sign-width-requires : tie.Need-sign-width-requires
+sign-width-requires c κs = search needs
+
+put-sign-requires : tie.Need-put-sign-requires
+put-sign-requires c κs = search needs
+
+add-put-digits : tie.Need-add-put-digits
+add-put-digits c = search needs
+
+put-digits-requires : tie.Need-put-digits-requires
+put-digits-requires c κs = search needs
+
+add-fill : tie.Need-add-fill
+add-fill c = search needs
+
+add-fill-2 : tie.Need-add-fill-2
+add-fill-2 c = search needs
+
+fill-requires : tie.Need-fill-requires
+fill-requires c κs = search needs
+
+add-put-digits-2 : tie.Need-add-put-digits-2
+add-put-digits-2 c = search needs
+
+add-put-digits-3 : tie.Need-add-put-digits-3
+add-put-digits-3 c = search needs
+
+add-put-digits-4 : tie.Need-add-put-digits-4
+add-put-digits-4 c = search needs
+
+put-digits-requires-2 : tie.Need-put-digits-requires-2
+put-digits-requires-2 c κs = search needs
+
+same-length : tie.Need-same-length
+same-length c = search needs
+
+returns : tie.Need-returns
+returns c =
+    let d = c .before .before in
+    let p = d .before .before .before .before in
+    let q = p .before .before .before .before in
+    let s = q .before .before .before .before in
+    let a = s .before .before .before in
+    splice-then _ _ _ _ _ _ _ (s .put-sign .ensures)
+    (splice-then _ _ _ _ _ _ _ (q .put-digits .ensures)
+    (splice-then _ _ _ _ _ _ _ (p .fill .ensures) (d .put-digits2 .ensures) (omega arith) (omega arith))
+    (simp length-digits)
+    (omega arith))
+    (omega arith)
+    (omega (arith, a .before))
+
+pub put-numeral-spec : {M : Type 1} → statement M
+put-numeral-spec =
+    tie.close
+    (tie.spec
+    sign-width-requires
+    put-sign-requires
+    add-put-digits
+    put-digits-requires
+    add-fill
+    add-fill-2
+    fill-requires
+    add-put-digits-2
+    add-put-digits-3
+    add-put-digits-4
+    put-digits-requires-2
+    same-length
+    returns)

@@ -1,0 +1,97 @@
+use mathlib.Core.Path.{_≡_, sym, _∙_}
+use lib.IntN.{natAbs}
+use mir.Facts.{toZ-ofZ}
+use Rattle.number.specs.Magnitude.{negative}
+use native.Mathlib.Omega.{arith}
+use Rattle.number.proofs.RoundingLaws.{units-of}
+use Rattle.field_written.proofs.Answer.{decimal-written, decimal-large}
+use borrow.Author.Needs.{needs}
+use Rattle.field_written.proofs.decimal.write_decimal.Statement.{statement}
+use Rattle.field_written.proofs.decimal.write_decimal.Tie as tie
+use Rattle.field_written.proofs.decimal.write_decimal.Reads as reads
+use Rattle.field_written.proofs.decimal.write_decimal.Lts as lts
+use Rattle.field_written.proofs.decimal.put_decimal.Reads as put-decimal-reads
+use Rattle.number.proofs.rounding.round.Reads as round-reads
+use Rattle.number.proofs.sign.is_negative.Reads as is-negative-reads
+use Rattle.number.proofs.sign.magnitude.Reads as magnitude-reads
+use Rattle.number.proofs.sign.stays_negative.Reads as stays-negative-reads
+
+-- what the callees say of the signed units, which reach them as bits
+negative-is : (c : tie.After-is-negative) → c .is-negative .result ≡ negative (c .before .before .args .units)
+negative-is c = simp (toZ-ofZ (c .before .before .fits .units)) at (c .is-negative .ensures)
+
+magnitude-is : (c : tie.After-magnitude) → c .magnitude .result ≡ natAbs (c .before .before .before .args .units)
+magnitude-is c = simp (toZ-ofZ (c .before .before .before .fits .units)) at (c .magnitude .ensures)
+
+is-negative-requires : tie.Need-is-negative-requires
+is-negative-requires c κs = search needs
+
+magnitude-requires : tie.Need-magnitude-requires
+magnitude-requires c κs = search needs
+
+round-requires : tie.Need-round-requires
+round-requires c κs = (omega (arith, magnitude-is c), omega arith, omega arith)
+
+enum-known-r : tie.Need-enum-known-r
+enum-known-r c = search needs
+
+stays-negative-requires : tie.Need-stays-negative-requires
+stays-negative-requires c κs = search needs
+
+put-decimal-requires : tie.Need-put-decimal-requires
+put-decimal-requires c κs =
+    let r = c .before .before .before in
+    (omega arith, omega arith, units-of _ _ _ (sym (r .before .before .round .ensures) ∙ r .r .given .1) .1)
+
+same-length : tie.Need-same-length
+same-length c = search needs
+
+returns : tie.Need-returns
+returns c =
+    let p = c .before .before .before in
+    let b = p .before .before in
+    let r = b .before .before in
+    let o = r .before .before in
+    let m = o .before in
+    let w = decimal-written (m .before .before .before .args .width) _ _ _ (magnitude-is m) (sym (o .round .ensures) ∙ r .r .given .1) (negative-is (m .before)) (b .stays-negative .ensures) in
+    (sym (w .0 ∙ rw (sym (p .put-decimal .ensures .0) ∙ c .if1 .taken)), p .put-decimal .ensures .1 ∙ sym (w .1 _ _))
+
+enum-told : tie.Need-enum-told
+enum-told c = search needs
+
+same-length-2 : tie.Need-same-length-2
+same-length-2 c = search needs
+
+returns-2 : tie.Need-returns-2
+returns-2 c =
+    let p = c .before .before .before in
+    let b = p .before .before in
+    let r = b .before .before in
+    let o = r .before .before in
+    let m = o .before in
+    let w = decimal-written (m .before .before .before .args .width) _ _ _ (magnitude-is m) (sym (o .round .ensures) ∙ r .r .given .1) (negative-is (m .before)) (b .stays-negative .ensures) in
+    (sym (w .0 ∙ rw (sym (p .put-decimal .ensures .0) ∙ c .if1 .left)), p .put-decimal .ensures .1 ∙ sym (w .1 _ _))
+
+returns-3 : tie.Need-returns-3
+returns-3 c =
+    let o = c .before .before in
+    let m = o .before in
+    let w = decimal-large (m .before .before .before .args .width) _ _ _ (magnitude-is m) (sym (o .round .ensures) ∙ c .enum-told .given .1) in
+    (sym (w .0), sym (w .1 _ _))
+
+pub write-decimal-spec : {M : Type 1} → statement M
+write-decimal-spec =
+    tie.close
+    (tie.spec
+    is-negative-requires
+    magnitude-requires
+    round-requires
+    enum-known-r
+    stays-negative-requires
+    put-decimal-requires
+    same-length
+    returns
+    enum-told
+    same-length-2
+    returns-2
+    returns-3)

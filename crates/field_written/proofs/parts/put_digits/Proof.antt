@@ -1,0 +1,81 @@
+use Prim.Native.Nat.{_-_}
+use native.Mathlib.Omega.{arith}
+use Rattle.field_written.proofs.Making.{Made, made-none, made-low, made-more, made-all}
+use Rattle.field_written.proofs.parts.put_digits.Statement.{statement}
+use Rattle.field_written.proofs.parts.put_digits.Tie as tie
+use Rattle.field_written.proofs.parts.put_digits.Reads as reads
+use Rattle.field_written.proofs.parts.put_digits.Lts as lts
+use Rattle.number.proofs.powers.power_of_ten.Reads as power-of-ten-reads
+
+abbrev Inv-loop : tie.InvT-loop
+Inv-loop dst₀ at k m rest₀ i₀ dst rest i = Made dst₀ at k m dst rest i
+
+abbrev μ-loop : tie.MeasureT-loop
+μ-loop dst₀ at k m rest₀ i₀ dst rest i = k - i
+
+loop-holds : tie.Need-loop-holds Inv-loop μ-loop
+loop-holds c = made-none (c .before .pre .0) (c .before .pre .1) (c .before .pre .2)
+
+sub-power-of-ten : tie.Need-sub-power-of-ten Inv-loop μ-loop
+sub-power-of-ten c = omega arith
+
+sub-power-of-ten-2 : tie.Need-sub-power-of-ten-2 Inv-loop μ-loop
+sub-power-of-ten-2 c = omega arith
+
+power-of-ten-requires : tie.Need-power-of-ten-requires Inv-loop μ-loop
+power-of-ten-requires c κs = omega arith
+
+div-dst : tie.Need-div-dst Inv-loop μ-loop
+div-dst c = omega arith
+
+cast-dst : tie.Need-cast-dst Inv-loop μ-loop
+cast-dst c = omega (arith, made-low (c .before .before .loop .inv) (c .before .loop-test .taken) (c .power-of-ten .ensures .0))
+
+add-dst : tie.Need-add-dst Inv-loop μ-loop
+add-dst c = omega (arith, made-low (c .before .before .loop .inv) (c .before .loop-test .taken) (c .power-of-ten .ensures .0))
+
+add-dst-2 : tie.Need-add-dst-2 Inv-loop μ-loop
+add-dst-2 c = omega arith
+
+slice-write-dst : tie.Need-slice-write-dst Inv-loop μ-loop
+slice-write-dst c = omega arith
+
+rem-rest : tie.Need-rem-rest Inv-loop μ-loop
+rem-rest c = omega arith
+
+add-i : tie.Need-add-i Inv-loop μ-loop
+add-i c = omega arith
+
+loop-less : tie.Need-loop-less Inv-loop μ-loop
+loop-less c = omega arith
+
+loop-again : tie.Need-loop-again Inv-loop μ-loop
+loop-again c = made-more (c .before .before .loop .inv) (c .before .loop-test .taken) (c .power-of-ten .ensures .0)
+
+same-length : tie.Need-same-length Inv-loop μ-loop
+same-length c = omega arith
+
+returns : tie.Need-returns Inv-loop μ-loop
+returns c = made-all (c .before .loop .inv) (c .loop-test .left)
+
+pub put-digits-spec : {M : Type 1} → statement M
+put-digits-spec =
+    tie.close
+    (tie.spec
+    Inv-loop
+    μ-loop
+    loop-holds
+    sub-power-of-ten
+    sub-power-of-ten-2
+    power-of-ten-requires
+    div-dst
+    cast-dst
+    add-dst
+    add-dst-2
+    slice-write-dst
+    rem-rest
+    add-i
+    loop-less
+    loop-again
+    same-length
+    returns)

@@ -1,0 +1,5 @@
+pub mod Table
+pub mod PowerLaws
+pub mod RoundingLaws
+pub mod DigitLaws
+pub mod SignLaws

@@ -1,0 +1,3 @@
+pub mod Magnitude
+pub mod Rounding
+pub mod Digits

@@ -1,0 +1,25 @@
+// Rounding a decimal, on magnitudes.
+use crate::Rounded;
+use crate::powers::power_of_ten;
+ghost use mathlib.Core.Path.{_≡_};
+ghost use Prim.Native.Nat.{_<_, _≤_};
+ghost use Rattle.number.specs.Magnitude.{largest};
+ghost use Rattle.number.specs.Rounding.{rounded};
+
+const LARGEST: u64 = 999_999_999_999_999_999;
+
+// units / 10^places to `wanted` places, halves away from zero.
+pub fn round(units: u64, places: usize, wanted: usize) -> Rounded
+    requires { ⌜ (units ≤ largest) × (places < 10) × (wanted < 10) ⌝ }
+    ensures { λ r. ⌜ r ≡ rounded units places wanted ⌝ }
+{
+    if places <= wanted {
+        let p = power_of_ten(wanted - places);
+        if units <= LARGEST / p {
+            return Rounded::Units(units * p);
+        }
+        return Rounded::TooLarge;
+    }
+    let p = power_of_ten(places - wanted);
+    Rounded::Units((units + p / 2) / p)
+}
