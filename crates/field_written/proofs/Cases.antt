@@ -18,7 +18,7 @@ use Rattle.field_written.specs.Written.{numeral, most, fewest, fieldText
 use Rattle.field_written.proofs.Fewest.{most-holds, fewest-holds}
 
 -- the columns beside the digits before the point
-pub beside : Numeric → Sign → ℕ
+unfoldable pub beside : Numeric → Sign → ℕ
 beside f s = length (signBytes s) + (length (point f) + places f)
 
 pub length-numeral : (f : Numeric) (s : Sign) (k m : ℕ) → length (numeral f s k m) ≡ beside f s + k
