@@ -49,3 +49,7 @@ natAbs-with false m = refl
 pub negative-with : (m : ℕ) → negative (withSign true m) ≡ ltb 0 m
 negative-with zero = refl
 negative-with (suc m) = sym (lt-ltb 0 (suc m) (omega arith))
+
+pub with-fits : (b : Bool) (m : ℕ) → m ≤ largest → SFits w64 (withSign b m)
+with-fits true m h = neg-fits (pos m) h
+with-fits false m h = record { sfits = omega arith }

@@ -1,0 +1,4 @@
+pub mod Blanks
+pub mod Running
+pub mod Numbers
+pub mod Cases

@@ -1,0 +1,112 @@
+-- Laws of a number read: its digits, the point, and its limits.
+-- Assumes nothing.
+use mathlib.Core.Path.{_≡_, refl, sym, ap, _∙_}
+use mathlib.Core.Bool.{Bool, true, false, _&&_, cond, and-false}
+use mathlib.Core.List.{List, [], _∷_, _++_}
+use Prim.Native.Nat.{ℕ, zero, suc, _+_, _*_, _^_, _<_, _≤_}
+use native.Mathlib.Nat.{mul-le-mul-left, mul-one, le-trans}
+use native.Mathlib.Omega.{arith}
+use borrow.Author.Tests.{eq-eqb, ne-eqb, lt-ltb, le-ltb, le-leb, lt-leb, leb-true}
+use lib.Dec.{leb, eqb, ltb}
+use lib.ListN.{length, drop}
+use Rattle.number.specs.Magnitude.{largest, withSign}
+use Rattle.number.specs.Digits.{Digits, value}
+use Rattle.number.proofs.PowerLaws.{ten-pos}
+use Rattle.number.proofs.DigitLaws.{value-append}
+use Rattle.field_written.specs.Numeral.{Numeric, I, F, Sign, none, plus, signed}
+use Rattle.field_written.specs.Written.{minusIf}
+use Rattle.field_read.specs.Read.{allDigits, beforePoint, fromPoint, numberRead, readDigits}
+use Rattle.field_read.specs.declared.FieldRead.the-variants.{Number, Refused}
+
+pub all-digits : (ds : List ℕ) → Digits ds → allDigits ds ≡ true
+unfolding allDigits
+all-digits [] h = refl
+all-digits (x ∷ xs) h = simp (le-leb 48 x (h .0), le-leb x 57 (h .1), all-digits xs (h .2))
+
+-- no digit
+abbrev pub Other : ℕ → Type 0
+Other c = 48 ≤ c → 57 < c
+
+other-digit : (c : ℕ) → Other c → (leb 48 c && leb c 57) ≡ false
+other-digit c h = go (leb 48 c) refl
+  where
+    go : (b : Bool) → leb 48 c ≡ b → (b && leb c 57) ≡ false
+    go true e = lt-leb c 57 (h (leb-true 48 c e))
+    go false e = refl
+
+some-other : (ds : List ℕ) (c : ℕ) (more : List ℕ) → Other c → allDigits (ds ++ (c ∷ more)) ≡ false
+unfolding allDigits
+some-other [] c more h = rw (other-digit c h)
+some-other (x ∷ xs) c more h = rw (some-other xs c more h) (and-false (leb 48 x && leb x 57))
+
+value-more : (ds more : List ℕ) → value ds ≤ value (ds ++ more)
+value-more ds more =
+    omega (arith, value-append ds more, rw mul-one at (mul-le-mul-left (value ds) (ten-pos (length more))))
+
+-- ---- the number of the digits x ++ y, y after the point
+
+module _ (s : Sign) (p : ℕ) (x y : List ℕ) where
+  pub number-good : Digits (x ++ y) → length y ≤ 9 → value (x ++ y) ≤ largest → numberRead s p x y ≡ cond (eqb (length (x ++ y)) 0) Refused (Number (signed s (value (x ++ y))) p)
+  unfolding numberRead
+  number-good a l v = go (x ++ y) refl
+    where
+      go : (z : List ℕ) → x ++ y ≡ z → cond (ltb 0 (length (x ++ y)) && allDigits (x ++ y) && leb (length y) 9 && leb (value (x ++ y)) largest) (Number (signed s (value (x ++ y))) p) Refused ≡ cond (eqb (length (x ++ y)) 0) Refused (Number (signed s (value (x ++ y))) p)
+      go [] e = rw e
+      go (c ∷ z) e =
+          let n : length (x ++ y) ≡ suc (length z) = ap length e in
+          simp (lt-ltb 0 (length (x ++ y)) (omega arith), all-digits (x ++ y) a, le-leb (length y) 9 l, le-leb (value (x ++ y)) largest v, ne-eqb (length (x ++ y)) 0 (λ q. omega arith))
+
+  pub number-bad : (ds : List ℕ) (c : ℕ) (more : List ℕ) → x ++ y ≡ ds ++ (c ∷ more) → Other c → numberRead s p x y ≡ Refused
+  unfolding numberRead
+  number-bad ds c more e h = rw (e, some-other ds c more h) (simp and-false)
+
+  pub number-over : (ds more : List ℕ) → x ++ y ≡ ds ++ more → largest < value ds → numberRead s p x y ≡ Refused
+  unfolding numberRead
+  number-over ds more e h =
+      let v : largest < value (x ++ y) = rw e (omega (arith, value-more ds more)) in
+      simp (lt-leb (value (x ++ y)) largest v, and-false)
+
+  pub number-long : 9 < length y → numberRead s p x y ≡ Refused
+  unfolding numberRead
+  number-long h = simp (lt-leb (length y) 9 h, and-false)
+
+-- ---- the sign
+
+pub signed-as : (below : Bool) (m : ℕ) → withSign below m ≡ signed (minusIf below) m
+signed-as true m = refl
+signed-as false m = refl
+
+pub plus-none : (f : Numeric) (t : List ℕ) → readDigits f plus t ≡ readDigits f none t
+unfolding numberRead
+plus-none I t = refl
+plus-none (F d) t = refl
+
+-- ---- the point
+
+pub before-digits : (x z : List ℕ) → Digits x → beforePoint (x ++ z) ≡ x ++ beforePoint z
+unfolding beforePoint
+before-digits [] z h = refl
+before-digits (c ∷ x) z h = simp (ne-eqb c 46 (λ e. omega arith), before-digits x z (h .2))
+
+pub from-digits : (x z : List ℕ) → Digits x → fromPoint (x ++ z) ≡ fromPoint z
+unfolding fromPoint
+from-digits [] z h = refl
+from-digits (c ∷ x) z h = simp (ne-eqb c 46 (λ e. omega arith), from-digits x z (h .2))
+
+pub before-other : (c : ℕ) (z : List ℕ) → (c ≡ 46 → ⊥) → beforePoint (c ∷ z) ≡ c ∷ beforePoint z
+unfolding beforePoint
+before-other c z e = simp (ne-eqb c 46 e)
+
+pub at-point : (y : List ℕ) → (beforePoint (46 ∷ y) ≡ []) × (fromPoint (46 ∷ y) ≡ 46 ∷ y)
+unfolding beforePoint fromPoint
+at-point y = (refl, refl)
+
+pub before-all : (x : List ℕ) → Digits x → beforePoint x ≡ x
+unfolding beforePoint
+before-all [] h = refl
+before-all (c ∷ x) h = simp (ne-eqb c 46 (λ e. omega arith), before-all x (h .2))
+
+pub from-all : (x : List ℕ) → Digits x → fromPoint x ≡ []
+unfolding fromPoint
+from-all [] h = refl
+from-all (c ∷ x) h = simp (ne-eqb c 46 (λ e. omega arith), from-all x (h .2))

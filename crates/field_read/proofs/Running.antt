@@ -1,0 +1,101 @@
+-- The loop over a run of digits.
+-- Assumes nothing.
+use mathlib.Core.Path.{_≡_, refl, sym, ap, _∙_}
+use mathlib.Core.List.{List, [], _∷_, _++_, append-assoc}
+use Prim.Native.Nat.{ℕ, _+_, _-_, _*_, _^_, _<_, _≤_}
+use native.Mathlib.Nat.{pow-suc}
+use native.Mathlib.Numerals.{add-one}
+use native.Mathlib.Omega.{arith}
+use lib.ListN.{length, drop, getD, length-append}
+use Rattle.number.specs.Magnitude.{largest}
+use Rattle.number.specs.Digits.{Digits, value}
+use Rattle.number.proofs.DigitLaws.{value-append, digits-append}
+use Rattle.field_read.specs.Read.{unblanked}
+use Rattle.field_read.specs.Steps.{Ran, RanOver}
+use Rattle.field_read.proofs.Blanks.{at-blank, at-other}
+
+-- up to i stand `count` digits, which after v make `sum`
+pub record Running (s : List ℕ) (from v sum count i : ℕ) : Type 0 where
+  pub digits : List ℕ
+  pub all : Digits digits
+  pub rest : unblanked (drop from s) ≡ digits ++ unblanked (drop i s)
+  pub many : count ≡ length digits
+  pub is : sum ≡ v * 10 ^ length digits + value digits
+  pub low : sum ≤ largest
+  pub past : i ≤ length s
+  pub fewer : count ≤ i
+
+pub running-none : {s : List ℕ} {from v : ℕ} → from ≤ length s → v ≤ largest → Running s from v v 0 from
+unfolding value
+running-none {s} {from} {v} h l =
+    record { digits = []; all = tt; rest = refl; many = refl; is = omega arith; low = l; past = h; fewer = omega arith }
+
+module _ {s : List ℕ} {from v sum count i : ℕ} (w : Running s from v sum count i) where
+  pub running-blank : i < length s → getD s i 0 ≡ 32 → Running s from v sum count (i + 1)
+  running-blank h e =
+      record {
+        digits = w .digits;
+        all = w .all;
+        rest = w .rest ∙ rw (at-blank s i h e);
+        many = w .many;
+        is = w .is;
+        low = w .low;
+        past = omega arith;
+        fewer = omega (arith, w .fewer);
+      }
+
+  pub running-stop : (i < length s → getD s i 0 ≡ 32 → ⊥) → (i < length s → 48 ≤ getD s i 0 → 57 < getD s i 0) → Ran s from v sum count i
+  running-stop a b =
+      record {
+        digits = w .digits;
+        all = w .all;
+        rest = w .rest;
+        many = w .many;
+        is = w .is;
+        low = w .low;
+        past = w .past;
+        fewer = w .fewer;
+        no-blank = a;
+        no-digit = b;
+      }
+
+  module _ (h : i < length s) (n : getD s i 0 ≡ 32 → ⊥) (l : 48 ≤ getD s i 0) (u : getD s i 0 ≤ 57) where
+    -- the digits with the one at i
+    one : List ℕ
+    one = w .digits ++ (getD s i 0 ∷ [])
+
+    one-digits : Digits one
+    unfolding one
+    one-digits = digits-append (w .digits) (getD s i 0 ∷ []) (w .all) (l, u, tt)
+
+    one-rest : unblanked (drop from s) ≡ one ++ unblanked (drop (i + 1) s)
+    unfolding one
+    one-rest = w .rest ∙ rw (at-other s i h n, append-assoc)
+
+    one-long : length one ≡ length (w .digits) + 1
+    unfolding one
+    one-long = length-append (w .digits) (getD s i 0 ∷ [])
+
+    one-value : sum * 10 + (getD s i 0 - 48) ≡ v * 10 ^ length one + value one
+    unfolding one value
+    one-value =
+        let e : value one ≡ value (w .digits) * 10 + (getD s i 0 - 48) = value-append (w .digits) (getD s i 0 ∷ []) ∙ omega arith in
+        let p : 10 ^ length one ≡ 10 ^ length (w .digits) * 10 = rw (one-long, add-one) (pow-suc 10 (length (w .digits))) in
+        rw (e, p) (omega (arith, w .is))
+
+    pub running-digit : sum * 10 + (getD s i 0 - 48) ≤ largest → Running s from v (sum * 10 + (getD s i 0 - 48)) (count + 1) (i + 1)
+    running-digit b =
+        record {
+          digits = one;
+          all = one-digits;
+          rest = one-rest;
+          many = omega (arith, w .many, one-long);
+          is = one-value;
+          low = b;
+          past = omega arith;
+          fewer = omega (arith, w .fewer);
+        }
+
+    pub running-over : largest < sum * 10 + (getD s i 0 - 48) → RanOver s from v
+    running-over b =
+        record { digits = one; more = unblanked (drop (i + 1) s); all = one-digits; rest = one-rest; high = rw (← one-value) b }

@@ -1,0 +1,37 @@
+use mathlib.Core.Path.{_≡_, sym, subst, _∙_}
+use denote.Ref.{now}
+use Rattle.field_written.specs.Numeral.{F}
+use Rattle.field_read.specs.Steps.{FrontIs}
+use Rattle.field_read.proofs.Cases.{read-nothing}
+use borrow.Author.Needs.{needs}
+use Rattle.field_read.proofs.decimal.read_decimal.Statement.{statement}
+use Rattle.field_read.proofs.decimal.read_decimal.Tie as tie
+use Rattle.field_read.proofs.decimal.read_decimal.Reads as reads
+use Rattle.field_read.proofs.decimal.read_decimal.Lts as lts
+use Rattle.field_read.proofs.decimal.read_units.Reads as read-units-reads
+use Rattle.field_read.proofs.leading.read_front.Reads as read-front-reads
+
+read-front-requires : tie.Need-read-front-requires
+read-front-requires c κs = search needs
+
+enum-told : tie.Need-enum-told
+enum-told c = search needs
+
+enum-known-below : tie.Need-enum-known-below
+enum-known-below c = search needs
+
+read-units-requires : tie.Need-read-units-requires
+read-units-requires c κs = subst (FrontIs _) (c .before .below .given .1) (c .before .before .before .read-front .ensures) .0
+
+returns : tie.Need-returns
+returns c = read-nothing (F _) _ (subst (FrontIs _) (c .enum-told .given .1) (c .before .before .read-front .ensures))
+
+returns-2 : tie.Need-returns-2
+returns-2 c =
+    let b = c .before .before in
+    c .read-units .ensures ∙ sym (subst (FrontIs _) (b .below .given .1) (b .before .before .read-front .ensures) .1 _)
+
+pub read-decimal-spec : {M : Type 1} → statement M
+read-decimal-spec =
+    tie.close
+    (tie.spec read-front-requires enum-told enum-known-below read-units-requires returns returns-2)

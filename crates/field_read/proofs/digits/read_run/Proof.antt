@@ -1,0 +1,95 @@
+use Prim.Native.Nat.{_-_}
+use native.Mathlib.Omega.{arith}
+use lib.ListN.{length}
+use Rattle.field_read.proofs.Running.{Running, running-none, running-blank, running-stop, running-digit, running-over}
+use Rattle.field_read.proofs.digits.read_run.Statement.{statement}
+use Rattle.field_read.proofs.digits.read_run.Tie as tie
+use Rattle.field_read.proofs.digits.read_run.Reads as reads
+use Rattle.field_read.proofs.digits.read_run.Lts as lts
+use Rattle.field_read.proofs.digits.wide.Reads as wide-reads
+
+abbrev Inv-loop : tie.InvT-loop
+Inv-loop part from v value₀ count₀ i₀ value count i = Running part from v value count i
+
+abbrev μ-loop : tie.MeasureT-loop
+μ-loop part from v value₀ count₀ i₀ value count i = length part - i
+
+loop-holds : tie.Need-loop-holds Inv-loop μ-loop
+loop-holds c = running-none (c .before .pre .0) (c .before .pre .1)
+
+shared-slice-read-b : tie.Need-shared-slice-read-b Inv-loop μ-loop
+shared-slice-read-b c = omega arith
+
+add-i : tie.Need-add-i Inv-loop μ-loop
+add-i c = omega arith
+
+loop-less : tie.Need-loop-less Inv-loop μ-loop
+loop-less c = omega arith
+
+loop-again : tie.Need-loop-again Inv-loop μ-loop
+loop-again c = running-blank (c .before .before .before .loop .inv) (c .before .before .loop-test .taken) (c .if1 .taken)
+
+returns : tie.Need-returns Inv-loop μ-loop
+returns c = running-stop (c .before .before .before .before .loop .inv) (λ _. c .before .if1 .left) (λ _ g. omega arith)
+
+returns-2 : tie.Need-returns-2 Inv-loop μ-loop
+returns-2 c = running-stop (c .before .before .before .before .before .loop .inv) (λ _. c .before .before .if1 .left) (λ _ g. c .if3 .taken)
+
+mul-value : tie.Need-mul-value Inv-loop μ-loop
+mul-value c = omega arith
+
+wide-requires : tie.Need-wide-requires Inv-loop μ-loop
+wide-requires c κs = tt
+
+add-value : tie.Need-add-value Inv-loop μ-loop
+add-value c = omega (arith, c .wide .ensures)
+
+returns-3 : tie.Need-returns-3 Inv-loop μ-loop
+returns-3 c =
+    let f = c .before .before .before .before in
+    let t = f .before .before in
+    running-over (t .before .loop .inv) (t .loop-test .taken) (f .if1 .left) (c .before .before .before .if2 .left) (c .before .before .if3 .left)
+    (omega (arith, c .before .wide .ensures))
+
+add-count : tie.Need-add-count Inv-loop μ-loop
+add-count c = omega arith
+
+add-i-2 : tie.Need-add-i-2 Inv-loop μ-loop
+add-i-2 c = omega arith
+
+loop-less-2 : tie.Need-loop-less-2 Inv-loop μ-loop
+loop-less-2 c = omega arith
+
+loop-again-2 : tie.Need-loop-again-2 Inv-loop μ-loop
+loop-again-2 c =
+    let f = c .before .before .before .before in
+    let t = f .before .before in
+    rw (c .before .wide .ensures)
+    (running-digit (t .before .loop .inv) (t .loop-test .taken) (f .if1 .left) (c .before .before .before .if2 .left) (c .before .before .if3 .left)
+    (omega (arith, c .before .wide .ensures)))
+
+returns-4 : tie.Need-returns-4 Inv-loop μ-loop
+returns-4 c = running-stop (c .before .loop .inv) (λ h _. omega arith) (λ h _. omega arith)
+
+pub read-run-spec : {M : Type 1} → statement M
+read-run-spec =
+    tie.close
+    (tie.spec
+    Inv-loop
+    μ-loop
+    loop-holds
+    shared-slice-read-b
+    add-i
+    loop-less
+    loop-again
+    returns
+    returns-2
+    mul-value
+    wide-requires
+    add-value
+    returns-3
+    add-count
+    add-i-2
+    loop-less-2
+    loop-again-2
+    returns-4)

@@ -1,0 +1,37 @@
+use mathlib.Core.Path.{_≡_, sym, subst, _∙_}
+use denote.Ref.{now}
+use Rattle.field_written.specs.Numeral.{I}
+use Rattle.field_read.specs.Steps.{FrontIs}
+use Rattle.field_read.proofs.Cases.{read-nothing}
+use borrow.Author.Needs.{needs}
+use Rattle.field_read.proofs.integer.read_integer.Statement.{statement}
+use Rattle.field_read.proofs.integer.read_integer.Tie as tie
+use Rattle.field_read.proofs.integer.read_integer.Reads as reads
+use Rattle.field_read.proofs.integer.read_integer.Lts as lts
+use Rattle.field_read.proofs.integer.read_whole.Reads as read-whole-reads
+use Rattle.field_read.proofs.leading.read_front.Reads as read-front-reads
+
+read-front-requires : tie.Need-read-front-requires
+read-front-requires c κs = search needs
+
+enum-told : tie.Need-enum-told
+enum-told c = search needs
+
+enum-known-below : tie.Need-enum-known-below
+enum-known-below c = search needs
+
+read-whole-requires : tie.Need-read-whole-requires
+read-whole-requires c κs = subst (FrontIs _) (c .before .below .given .1) (c .before .before .before .read-front .ensures) .0
+
+returns : tie.Need-returns
+returns c = read-nothing I _ (subst (FrontIs _) (c .enum-told .given .1) (c .before .before .read-front .ensures))
+
+returns-2 : tie.Need-returns-2
+returns-2 c =
+    let b = c .before .before in
+    c .read-whole .ensures ∙ sym (subst (FrontIs _) (b .below .given .1) (b .before .before .read-front .ensures) .1 _)
+
+pub read-integer-spec : {M : Type 1} → statement M
+read-integer-spec =
+    tie.close
+    (tie.spec read-front-requires enum-told enum-known-below read-whole-requires returns returns-2)

@@ -1,0 +1,71 @@
+// The decimal field.
+use crate::FieldRead;
+use crate::Front;
+use crate::Run;
+use crate::digits::number_of;
+use crate::digits::read_run;
+use crate::leading::read_front;
+ghost use mathlib.Core.Path.{_≡_};
+ghost use mathlib.Core.List.{List};
+ghost use Prim.Native.Nat.{ℕ, _+_, _<_, _≤_};
+ghost use lib.ListN.{length, drop};
+ghost use Rattle.number.specs.Magnitude.{largest};
+ghost use Rattle.number.specs.Digits.{Digits, value};
+ghost use Rattle.field_written.specs.Numeral.{F};
+ghost use Rattle.field_written.specs.Written.{minusIf};
+ghost use Rattle.field_read.specs.Read.{unblanked, numberRead, readDigits, readField};
+
+// The digits after the point, from `from` on, after `count` digits that make the number m.
+fn read_fraction(part: &[u8], from: usize, below: bool, m: u64, count: usize) -> FieldRead
+    requires { ⌜ (from ≤ length (now part)) × (m ≤ largest) × (count < from) ⌝ }
+    ensures { λ r. ⌜ ((whole : List ℕ) → Digits whole → m ≡ value whole → count ≡ length whole → r ≡ numberRead (minusIf below) (length (unblanked (drop from (now (part .entry))))) whole (unblanked (drop from (now (part .entry))))) ⌝ }
+{
+    match read_run(part, from, m) {
+        Run::Digits {
+            value,
+            count: places,
+            next,
+        } => {
+            if next < part.len() {
+                return FieldRead::Refused;
+            }
+            if 9 < places {
+                return FieldRead::Refused;
+            }
+            number_of(count + places, below, value, places)
+        }
+        Run::TooLarge => FieldRead::Refused,
+    }
+}
+
+// The digits of a decimal, with a point or d places, from `from` on.
+fn read_units(part: &[u8], from: usize, below: bool, d: usize) -> FieldRead
+    requires { ⌜ from ≤ length (now part) ⌝ }
+    ensures { λ r. ⌜ r ≡ readDigits (F d) (minusIf below) (unblanked (drop from (now (part .entry)))) ⌝ }
+{
+    match read_run(part, from, 0) {
+        Run::Digits { value, count, next } => {
+            if part.len() <= next {
+                return number_of(count, below, value, d);
+            }
+            if part[next] != b'.' {
+                return FieldRead::Refused;
+            }
+            read_fraction(part, next + 1, below, value, count)
+        }
+        Run::TooLarge => FieldRead::Refused,
+    }
+}
+
+// A field read under Fw.d.
+pub fn read_decimal(part: &[u8], d: usize) -> FieldRead
+    ensures { λ r. ⌜ r ≡ readField (F d) (now (part .entry)) ⌝ }
+{
+    match read_front(part) {
+        Front::Nothing => FieldRead::Number {
+            units: 0,
+            places: d,
+        },
+        Front::Signed { below, from } => read_units(part, from, below, d),
+    }
+}

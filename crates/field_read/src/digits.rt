@@ -1,0 +1,74 @@
+// A run of digits, and the number that is read.
+use crate::FieldRead;
+use crate::Run;
+ghost use mathlib.Core.Path.{_≡_};
+ghost use mathlib.Core.Bool.{cond};
+ghost use Prim.Native.Nat.{_≤_};
+ghost use lib.Dec.{eqb};
+ghost use lib.ListN.{length};
+ghost use Rattle.number.specs.Magnitude.{largest, withSign};
+ghost use Rattle.field_read.specs.Steps.{RunIs};
+
+const LARGEST: u64 = 999_999_999_999_999_999;
+
+fn wide(b: u8) -> u64
+    ensures { λ r. ⌜ r ≡ b ⌝ }
+{
+    b as u64
+}
+
+// The digits from `from` on, blanks passed over, after the number v.
+pub fn read_run(part: &[u8], from: usize, v: u64) -> Run
+    requires { ⌜ (from ≤ length (now part)) × (v ≤ largest) ⌝ }
+    ensures { λ r. ⌜ RunIs (now (part .entry)) from v r ⌝ }
+{
+    let mut value = v;
+    let mut count: usize = 0;
+    let mut i = from;
+    while i < part.len() {
+        let b = part[i];
+        if b == b' ' {
+            i += 1;
+        } else {
+            if b < 48 {
+                return Run::Digits {
+                    value,
+                    count,
+                    next: i,
+                };
+            }
+            if 57 < b {
+                return Run::Digits {
+                    value,
+                    count,
+                    next: i,
+                };
+            }
+            value = value * 10 + wide(b - 48);
+            if LARGEST < value {
+                return Run::TooLarge;
+            }
+            count += 1;
+            i += 1;
+        }
+    }
+    Run::Digits {
+        value,
+        count,
+        next: i,
+    }
+}
+
+// The number of `count` digits, which are none too many; without a digit there is none.
+pub fn number_of(count: usize, below: bool, m: u64, places: usize) -> FieldRead
+    requires { ⌜ m ≤ largest ⌝ }
+    ensures { λ r. ⌜ r ≡ cond (eqb count 0) FieldRead.Refused (FieldRead.Number (withSign below m) places) ⌝ }
+{
+    if count == 0 {
+        return FieldRead::Refused;
+    }
+    FieldRead::Number {
+        units: number::sign::with_sign(below, m),
+        places,
+    }
+}
