@@ -28,7 +28,7 @@ pub read-nothing : (f : Numeric) (s : List ℕ) → unblanked s ≡ [] → Numbe
 unfolding readField
 read-nothing f s e = rw e
 
-read-some : (f : Numeric) (s : List ℕ) (x : ℕ) (t : List ℕ) → unblanked s ≡ x ∷ t → readField f s ≡ readDigits f (signOf (x ∷ t)) (afterSign (x ∷ t))
+pub read-some : (f : Numeric) (s : List ℕ) (x : ℕ) (t : List ℕ) → unblanked s ≡ x ∷ t → readField f s ≡ readDigits f (signOf (x ∷ t)) (afterSign (x ∷ t))
 unfolding readField
 read-some f s x t e = rw e (simp (ne-eqb (suc (length t)) 0 (λ q. omega arith)))
 

@@ -2,3 +2,4 @@ pub mod Blanks
 pub mod Running
 pub mod Numbers
 pub mod Cases
+pub mod Promises

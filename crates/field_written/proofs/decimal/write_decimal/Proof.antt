@@ -41,7 +41,8 @@ stays-negative-requires c κs = search needs
 put-decimal-requires : tie.Need-put-decimal-requires
 put-decimal-requires c κs =
     let r = c .before .before .before in
-    (omega arith, omega arith, units-of _ _ _ (sym (r .before .before .round .ensures) ∙ r .r .given .1) .1)
+    let o = r .before .before in
+    (omega arith, omega arith, omega (arith, units-of _ _ _ (sym (o .round .ensures) ∙ r .r .given .1) .1, magnitude-is (o .before)))
 
 same-length : tie.Need-same-length
 same-length c = search needs

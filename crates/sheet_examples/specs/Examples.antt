@@ -1,0 +1,70 @@
+-- Document 01, 'Sheet examples': those marked M.
+-- Assumes nothing.
+use mathlib.Core.Path.{_≡_}
+use mathlib.Core.Bool.{cond}
+use mathlib.Core.List.{List, [], _∷_, map}
+use Prim.Native.Nat.{ℕ}
+use Prim.Native.Char.{code}
+use Prim.Native.String.{String}
+use Prim.Native.String as text
+use lib.IntN.{ℤ, pos, negℤ}
+use Rattle.number.specs.Rounding.{roundedUnits, tooLarge}
+use Rattle.field_written.specs.Numeral.{I, F, plain}
+use Rattle.field_written.specs.Written.{field}
+use Rattle.field_read.specs.Read.{readField}
+use Rattle.field_read.specs.declared.FieldRead.{FieldRead}
+use Rattle.field_read.specs.declared.FieldRead.the-variants.{Number}
+
+-- the bytes of a text
+unfoldable pub bytes : String → List ℕ
+bytes text.[] = []
+bytes (text._∷_ c s) = code c ∷ bytes s
+
+pub data Example : Type 0 where
+  -- Iw of n gives the text
+  integer : (w : ℕ) (n : ℤ) → String → Example
+  -- Fw.d of u/s gives the text
+  decimal : (w d : ℕ) (u : ℤ) (s : ℕ) → String → Example
+  -- the text read under Fw.d gives u/s
+  read : (d : ℕ) → String → (u : ℤ) (s : ℕ) → Example
+
+-- a field written, a refusal of the value, or a field read
+pub data Answer : Type 0 where
+  written : List ℕ → Answer
+  refused : Answer
+  taken : FieldRead → Answer
+
+-- by the definitions
+unfoldable pub computed : Example → Answer
+computed (integer w n t) = written (field plain I w n)
+computed (decimal w d u s t) = cond (tooLarge u s d) refused (written (field plain (F d) w (roundedUnits u s d)))
+computed (read d t u s) = taken (readField (F d) (bytes t))
+
+-- by the paper
+unfoldable pub stated : Example → Answer
+stated (integer w n t) = written (bytes t)
+stated (decimal w d u s t) = written (bytes t)
+stated (read d t u s) = taken (Number u s)
+
+unfoldable pub examples : List Example
+examples =
+    integer 3 (pos 999) "999"
+    ∷ integer 3 (negℤ (pos 99)) "-99"
+    ∷ integer 3 (pos 1000) "***"
+    ∷ integer 3 (negℤ (pos 100)) "***"
+    ∷ decimal 4 1 (negℤ (pos 3)) 1 "-0.3"
+    ∷ decimal 3 1 (negℤ (pos 3)) 1 "-.3"
+    ∷ decimal 2 1 (negℤ (pos 3)) 1 "**"
+    ∷ decimal 3 1 (negℤ (pos 4)) 2 "0.0"
+    ∷ decimal 3 1 (pos 995) 2 "***"
+    ∷ decimal 2 0 (pos 4) 1 "0."
+    ∷ decimal 2 0 (pos 5) 1 "1."
+    ∷ decimal 1 0 (pos 0) 0 "*"
+    ∷ read 2 "1234" (pos 1234) 2
+    ∷ read 2 "12.3" (pos 123) 1
+    ∷ read 2 "    " (pos 0) 2
+    ∷ []
+
+-- every marked example is true of the definitions
+abbrev pub ExamplesHold : Type 0
+ExamplesHold = map computed examples ≡ map stated examples

@@ -1,0 +1,1 @@
+// The marked examples of document 01: definitions and one theorem, no code.
