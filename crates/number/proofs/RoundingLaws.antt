@@ -4,16 +4,17 @@ use mathlib.Core.Path.{_≡_, refl, sym, ap, subst, _∙_}
 use mathlib.Core.Bool.{Bool, true, false, cond}
 use Prim.Native.Nat.{ℕ, zero, suc, _+_, _-_, _*_, _/_, _^_, _<_, _≤_}
 use native.Mathlib.Decide.{decLt, decLe}
-use native.Mathlib.Nat.{mul-assoc, mul-left-comm, add-mul, mul-div-mul-left, mul-div-mul-right, le-div-iff-mul-le, div-lt-iff-lt-mul, div-mul-le-self, lt-div-mul-add, mul-le-mul-right, le-antisymm}
+use native.Mathlib.Nat.{mul-assoc, mul-left-comm, add-mul, mul-div-mul-left, mul-div-mul-right, le-div-iff-mul-le, div-lt-iff-lt-mul, div-mul-le-self, lt-div-mul-add, mul-le-mul-right, le-antisymm, zero-mul}
 use native.Mathlib.Omega.{arith}
 use lib.Arith.{digits-div}
 use lib.Dec.{ltb}
-use lib.IntN.{ℤ, natAbs}
+use lib.IntN.{ℤ, pos, negsuc, negℤ, natAbs, _*ℤ_, _-ℤ_, negℤ-negℤ, negℤ-+ℤ}
 use borrow.Author.Tests.{lt-ltb, le-ltb, ltb-true, ltb-false}
 use Rattle.number.specs.Magnitude.{largest}
-use Rattle.number.specs.Rounding.{nearest, rounded, apart, Nearest}
+use Rattle.number.specs.Rounding.{nearest, rounded, roundedUnits, distance, Nearest}
 use Rattle.number.specs.declared.Rounded.the-variants.{Units, TooLarge}
 use Rattle.number.proofs.PowerLaws.{ten-pos, ten-split, ten-half}
+use Rattle.number.proofs.SignLaws.{natAbs-neg}
 
 -- places added: the units are multiplied. (The power is a variable with its equation, as the code has it.)
 pub nearest-up : (u s d : ℕ) {p : ℕ} → s ≤ d → p ≡ 10 ^ (d - s) → nearest u s d ≡ u * p
@@ -102,22 +103,108 @@ nearest-high u s d =
 above : {k r : ℕ} (p : ℕ) → r < k → r * p + p ≤ k * p
 above {k} {r} p h = omega (arith, mul-le-mul-right p h)
 
-pub nearest-right : (u s d : ℕ) → Nearest u s d (nearest u s d)
-nearest-right u s d =
-    let r : ℕ = nearest u s d in
-    let l = nearest-low u s d in
-    let h = nearest-high u s d in
-    record {
-      no-nearer = λ k. elim (decLt r k) [
+-- how far apart two numbers are
+abbrev apart : ℕ → ℕ → ℕ
+apart a b = (a - b) + (b - a)
+
+-- on magnitudes: no multiple is nearer, and one as near is no larger
+module _ (u s d : ℕ) where
+  no-nearer-up : (k : ℕ) → apart (nearest u s d * 10 ^ s) (u * 10 ^ d) ≤ apart (k * 10 ^ s) (u * 10 ^ d)
+  no-nearer-up k =
+      let r : ℕ = nearest u s d in
+      let l = nearest-low u s d in
+      let h = nearest-high u s d in
+      elim (decLt r k) [
         | yes g ↦ omega (arith, above (10 ^ s) g)
-        | no g ↦ elim (decLt k r) [ yes f ↦ omega (arith, above (10 ^ s) f) | no f ↦ (let e : r ≡ k = omega arith in rw e (omega arith)) ]
-      ];
-      half-away = λ k e. elim (decLt r k) [ yes g ↦ absurd (omega (arith, above (10 ^ s) g)) | no g ↦ omega arith ];
+        | no g ↦
+            elim (decLt k r) [
+              | yes f ↦ omega (arith, above (10 ^ s) f)
+              | no f ↦
+                  (let e : r ≡ k = omega arith in
+                  rw e (omega arith))
+            ]
+      ]
+
+  half-up : (k : ℕ) → apart (k * 10 ^ s) (u * 10 ^ d) ≡ apart (nearest u s d * 10 ^ s) (u * 10 ^ d) → k ≤ nearest u s d
+  half-up k e =
+      let r : ℕ = nearest u s d in
+      let l = nearest-low u s d in
+      let h = nearest-high u s d in
+      elim (decLt r k) [ yes g ↦ absurd (omega (arith, above (10 ^ s) g)) | no g ↦ omega arith ]
+
+-- ---- the same of signed numbers
+
+apart-pos : (a b : ℕ) → natAbs (pos a -ℤ pos b) ≡ apart a b
+apart-pos a zero = omega arith
+apart-pos a (suc b) = go (ltb a (suc b)) refl
+  where
+    go : (t : Bool) → ltb a (suc b) ≡ t → natAbs (cond t (negsuc (suc b - suc a)) (pos (a - suc b))) ≡ apart a (suc b)
+    go true e = omega (arith, ltb-true a (suc b) e)
+    go false e = omega (arith, ltb-false a (suc b) e)
+
+apart-neg : (a b : ℕ) → natAbs (negℤ (pos a) -ℤ pos b) ≡ a + b
+apart-neg zero b = apart-pos zero b ∙ omega arith
+apart-neg (suc a) zero = simp (lt-ltb 0 (suc a) (omega arith)) (omega arith)
+apart-neg (suc a) (suc b) = omega arith
+
+-- ---- both negated
+
+neg-times : (k : ℤ) (p : ℕ) → negℤ k *ℤ pos p ≡ negℤ (k *ℤ pos p)
+neg-times (pos zero) p = simp zero-mul
+neg-times (pos (suc a)) p = refl
+neg-times (negsuc a) p = sym (negℤ-negℤ (pos (suc a * p)))
+
+distance-neg : (u : ℤ) (s d : ℕ) (k : ℤ) → distance (negℤ u) s d (negℤ k) ≡ distance u s d k
+distance-neg u s d k =
+    rw (neg-times k (10 ^ s), neg-times u (10 ^ d), ← negℤ-+ℤ (k *ℤ pos (10 ^ s)) (negℤ (u *ℤ pos (10 ^ d)))) (natAbs-neg (k *ℤ pos (10 ^ s) -ℤ u *ℤ pos (10 ^ d)))
+
+nearest-neg : {u : ℤ} {s d : ℕ} {r : ℤ} → Nearest u s d r → Nearest (negℤ u) s d (negℤ r)
+nearest-neg {u} {s} {d} {r} n =
+    let back : (k : ℤ) → distance (negℤ u) s d k ≡ distance u s d (negℤ k) =
+    λ k. ap (distance (negℤ u) s d) (sym (negℤ-negℤ k)) ∙ distance-neg u s d (negℤ k) in
+    record {
+      no-nearer = λ k. rw (distance-neg u s d r, back k) (n .no-nearer (negℤ k));
+      half-away = λ k e. rw (natAbs-neg r, ← natAbs-neg k) (n .half-away (negℤ k) (sym (back k) ∙ e ∙ distance-neg u s d r));
     }
 
-pub nearest-only : {u s d r : ℕ} → Nearest u s d r → r ≡ nearest u s d
-nearest-only {u} {s} {d} {r} n =
-    let m = nearest-right u s d in
-    let q : ℕ = nearest u s d in
-    let e : apart (r * 10 ^ s) (u * 10 ^ d) ≡ apart (q * 10 ^ s) (u * 10 ^ d) = le-antisymm (n .no-nearer q) (m .no-nearer r) in
-    le-antisymm (m .half-away r e) (n .half-away q (sym e))
+-- ---- the rounded units are nearest, and no other number is
+
+module _ (m s d : ℕ) where
+  right-pos : Nearest (pos m) s d (pos (nearest m s d))
+  right-pos = record { no-nearer = near; half-away = half }
+    where
+      q : ℕ
+      q = nearest m s d
+
+      -- a multiple below zero is farther than 0 is
+      zero-near : distance (pos m) s d (pos q) ≤ m * 10 ^ d
+      zero-near = rw (apart-pos (q * 10 ^ s) (m * 10 ^ d)) (omega (arith, no-nearer-up m s d 0))
+
+      near : (k : ℤ) → distance (pos m) s d (pos q) ≤ distance (pos m) s d k
+      near (pos k) = rw (apart-pos (q * 10 ^ s) (m * 10 ^ d), apart-pos (k * 10 ^ s) (m * 10 ^ d)) (no-nearer-up m s d k)
+      near (negsuc k) = rw (apart-neg (suc k * 10 ^ s) (m * 10 ^ d)) (omega (arith, zero-near))
+
+      half : (k : ℤ) → distance (pos m) s d k ≡ distance (pos m) s d (pos q) → natAbs k ≤ q
+      half (pos k) e =
+          half-up m s d k (sym (apart-pos (k * 10 ^ s) (m * 10 ^ d)) ∙ e ∙ apart-pos (q * 10 ^ s) (m * 10 ^ d))
+      half (negsuc k) e =
+          absurd (omega (arith, zero-near, apart-neg (suc k * 10 ^ s) (m * 10 ^ d), ten-pos s))
+
+  only-pos : (r : ℤ) → Nearest (pos m) s d r → r ≡ pos (nearest m s d)
+  only-pos (pos j) n =
+      let q : ℕ = nearest m s d in
+      let e : distance (pos m) s d (pos j) ≡ distance (pos m) s d (pos q) = le-antisymm (n .no-nearer (pos q)) (right-pos .no-nearer (pos j)) in
+      ap pos (le-antisymm (right-pos .half-away (pos j) e) (n .half-away (pos q) (sym e)))
+  only-pos (negsuc j) n =
+      absurd (omega (arith, n .no-nearer (pos 0), apart-neg (suc j * 10 ^ s) (m * 10 ^ d), apart-pos (0 * 10 ^ s) (m * 10 ^ d), ten-pos s))
+
+pub rounded-right : (u : ℤ) (s d : ℕ) → Nearest u s d (roundedUnits u s d)
+unfolding roundedUnits
+rounded-right (pos m) s d = right-pos m s d
+rounded-right (negsuc m) s d = nearest-neg (right-pos (suc m) s d)
+
+pub rounded-only : (u : ℤ) {s d : ℕ} {r : ℤ} → Nearest u s d r → r ≡ roundedUnits u s d
+unfolding roundedUnits
+rounded-only (pos m) {s} {d} {r} n = only-pos m s d r n
+rounded-only (negsuc m) {s} {d} {r} n =
+    sym (negℤ-negℤ r) ∙ ap negℤ (only-pos (suc m) s d (negℤ r) (nearest-neg n))

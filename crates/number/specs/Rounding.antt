@@ -2,15 +2,15 @@
 -- Assumes nothing.
 use mathlib.Core.Path.{_≡_}
 use mathlib.Core.Bool.{Bool, cond}
-use Prim.Native.Nat.{ℕ, _+_, _-_, _*_, _/_, _^_, _≤_}
+use Prim.Native.Nat.{ℕ, _+_, _*_, _/_, _^_, _≤_}
 use lib.Dec.{ltb}
-use lib.IntN.{ℤ, natAbs}
+use lib.IntN.{ℤ, pos, natAbs, _*ℤ_, _-ℤ_}
 use Rattle.number.specs.Magnitude.{largest, negative, withSign}
 use Rattle.number.specs.declared.Rounded.{Rounded}
 use Rattle.number.specs.declared.Rounded.the-variants.{Units, TooLarge}
 
 -- u / 10^s rounded to the nearest multiple of 10^-d, halves away from zero, in units of 10^-d, on magnitudes:
--- u / 10^s and half of 10^-d more, cut off. `Nearest`, below, says the same without a closed form.
+-- u / 10^s and half of 10^-d more, cut off
 unfoldable pub nearest : ℕ → ℕ → ℕ → ℕ
 nearest u s d = (2 * (u * 10 ^ d) + 10 ^ s) / (2 * 10 ^ s)
 
@@ -26,12 +26,14 @@ tooLarge u s d = ltb largest (natAbs (roundedUnits u s d))
 unfoldable pub rounded : ℕ → ℕ → ℕ → Rounded
 rounded u s d = cond (ltb largest (nearest u s d)) TooLarge (Units (nearest u s d))
 
--- how far apart two numbers are
-abbrev pub apart : ℕ → ℕ → ℕ
-apart a b = (a - b) + (b - a)
+-- ---- the same without a closed form
 
--- r / 10^d is a nearest multiple of 10^-d to u / 10^s, and of two that are as near it is the one away from zero
--- (both are taken times 10^(s + d)). The law `nearest-only` of proofs/RoundingLaws.antt: r is then `nearest u s d` and no other.
-pub record Nearest (u s d r : ℕ) : Type 0 where
-  pub no-nearer : (k : ℕ) → apart (r * 10 ^ s) (u * 10 ^ d) ≤ apart (k * 10 ^ s) (u * 10 ^ d)
-  pub half-away : (k : ℕ) → apart (k * 10 ^ s) (u * 10 ^ d) ≡ apart (r * 10 ^ s) (u * 10 ^ d) → k ≤ r
+-- how far the multiple k of 10^-d is from u / 10^s, both times 10^(s + d)
+abbrev pub distance : ℤ → ℕ → ℕ → ℤ → ℕ
+distance u s d k = natAbs (k *ℤ pos (10 ^ s) -ℤ u *ℤ pos (10 ^ d))
+
+-- 'the nearest multiple of 10^-d': none is nearer than r; 'halves away from zero': one as near has no larger magnitude.
+-- (The laws `rounded-right` and `rounded-only` of proofs/RoundingLaws.antt: this r is `roundedUnits u s d` and no other.)
+pub record Nearest (u : ℤ) (s d : ℕ) (r : ℤ) : Type 0 where
+  pub no-nearer : (k : ℤ) → distance u s d r ≤ distance u s d k
+  pub half-away : (k : ℤ) → distance u s d k ≡ distance u s d r → natAbs k ≤ natAbs r
