@@ -1,6 +1,7 @@
 // A run of digits, and the number that is read.
 use crate::FieldRead;
 use crate::Run;
+use number::LARGEST;
 ghost use mathlib.Core.Path.{_≡_};
 ghost use mathlib.Core.Bool.{cond};
 ghost use Prim.Native.Nat.{_≤_};
@@ -8,8 +9,6 @@ ghost use lib.Dec.{eqb};
 ghost use lib.ListN.{length};
 ghost use Rattle.number.specs.Magnitude.{largest, withSign};
 ghost use Rattle.field_read.specs.Steps.{RunIs};
-
-const LARGEST: u64 = 999_999_999_999_999_999;
 
 fn wide(b: u8) -> u64
     ensures { λ r. ⌜ r ≡ b ⌝ }

@@ -4,6 +4,9 @@ pub mod powers;
 pub mod rounding;
 pub mod sign;
 
+// The largest magnitude of an integer and of a decimal's units.
+pub const LARGEST: u64 = 999_999_999_999_999_999;
+
 // A decimal's units after rounding.
 pub enum Rounded {
     Units(u64),

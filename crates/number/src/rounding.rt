@@ -1,12 +1,11 @@
 // Rounding a decimal, on magnitudes.
+use crate::LARGEST;
 use crate::Rounded;
 use crate::powers::power_of_ten;
 ghost use mathlib.Core.Path.{_≡_};
 ghost use Prim.Native.Nat.{_<_, _≤_};
 ghost use Rattle.number.specs.Magnitude.{largest};
 ghost use Rattle.number.specs.Rounding.{rounded};
-
-const LARGEST: u64 = 999_999_999_999_999_999;
 
 // units / 10^places to `wanted` places, halves away from zero.
 pub fn round(units: u64, places: usize, wanted: usize) -> Rounded
