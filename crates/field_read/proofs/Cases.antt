@@ -10,13 +10,14 @@ use borrow.Author.Tests.{eq-eqb, ne-eqb, lt-ltb}
 use lib.Dec.{eqb}
 use lib.ListN.{length, drop, getD, length-append}
 use lib.IntN.{pos}
+use Rattle.buffer.specs.Characters.{plusSign, minusSign}
 use Rattle.number.specs.Magnitude.{largest, withSign}
 use Rattle.number.specs.Digits.{Digits, value}
 use Rattle.number.proofs.DigitLaws.{value-append, digits-append}
 use Rattle.field_written.specs.Numeral.{Numeric, I, F, places, Sign, none, plus, minus, signed}
 use Rattle.field_written.specs.Written.{minusIf}
 use Rattle.field_read.specs.Read.{unblanked, signOf, afterSign, beforePoint, fromPoint, numberRead, placesRead, readDigits, readField}
-use Rattle.field_read.specs.Steps.{Skipped, Ran, RanOver}
+use Rattle.field_read.specs.Steps.{Skipped, isMinus, Signed, Ran, RunTooLarge}
 use Rattle.field_read.specs.declared.FieldRead.the-variants.{Number, Refused}
 use Rattle.field_read.proofs.Blanks.{at-other, at-end}
 use Rattle.field_read.proofs.Numbers.{Other, number-good, number-bad, number-over, number-long, signed-as, plus-none, before-digits, from-digits, before-other, at-point, before-all, from-all}
@@ -32,6 +33,19 @@ pub read-some : (f : Numeric) (s : List ℕ) (x : ℕ) (t : List ℕ) → unblan
 unfolding readField
 read-some f s x t e = rw e (simp (ne-eqb (suc (length t)) 0 (λ q. omega arith)))
 
+-- a plus reads as no sign
+sign-read : (f : Numeric) (s : Sign) (t : List ℕ) → readDigits f s t ≡ readDigits f (minusIf (isMinus s)) t
+sign-read f none t = refl
+sign-read f plus t = plus-none f t
+sign-read f minus t = refl
+
+pub signed-reads : {s : List ℕ} {below : Bool} {from : ℕ} → Signed s below from → (f : Numeric) → readField f s ≡ readDigits f (minusIf below) (unblanked (drop from s))
+unfolding readField
+signed-reads {s} {below} {from} w f =
+    let u : List ℕ = unblanked s in
+    simp (ne-eqb (length u) 0 (λ e. omega (arith, w .some)))
+    (sign-read f (signOf u) (afterSign u) ∙ rw (← w .sign) (ap (readDigits f (minusIf below)) (w .rest)))
+
 module _ {s : List ℕ} {at : ℕ} (w : Skipped s at) where
   pub front-nothing : length s ≤ at → unblanked s ≡ []
   front-nothing h = w .same ∙ at-end s at h
@@ -40,17 +54,21 @@ module _ {s : List ℕ} {at : ℕ} (w : Skipped s at) where
     first : unblanked s ≡ getD s at 0 ∷ unblanked (drop (at + 1) s)
     first = w .same ∙ at-other s at h (w .stop h)
 
-    pub front-plus : getD s at 0 ≡ 43 → (f : Numeric) → readField f s ≡ readDigits f none (unblanked (drop (at + 1) s))
-    front-plus e f = read-some f s 43 (unblanked (drop (at + 1) s)) (first ∙ rw e) ∙ plus-none f (unblanked (drop (at + 1) s))
+    pub front-plus : getD s at 0 ≡ plusSign → Signed s false (at + 1)
+    front-plus e = record { past = omega arith; some = rw first (omega arith); sign = rw (first, e); rest = rw (first, e) }
 
-    pub front-minus : getD s at 0 ≡ 45 → (f : Numeric) → readField f s ≡ readDigits f minus (unblanked (drop (at + 1) s))
-    front-minus e f = read-some f s 45 (unblanked (drop (at + 1) s)) (first ∙ rw e)
+    pub front-minus : getD s at 0 ≡ minusSign → Signed s true (at + 1)
+    front-minus e = record { past = omega arith; some = rw first (omega arith); sign = rw (first, e); rest = rw (first, e) }
 
-    pub front-none : (getD s at 0 ≡ 43 → ⊥) → (getD s at 0 ≡ 45 → ⊥) → (f : Numeric) → readField f s ≡ readDigits f none (unblanked (drop at s))
-    front-none p m f =
+    pub front-none : (getD s at 0 ≡ plusSign → ⊥) → (getD s at 0 ≡ minusSign → ⊥) → Signed s false at
+    front-none p m =
         let x : ℕ = getD s at 0 in
-        let t : List ℕ = unblanked (drop (at + 1) s) in
-        read-some f s x t first ∙ rw (at-other s at h (w .stop h)) (simp (ne-eqb x 43 p, ne-eqb x 45 m))
+        record {
+          past = omega arith;
+          some = rw first (omega arith);
+          sign = rw first (simp (ne-eqb x 43 p, ne-eqb x 45 m));
+          rest = rw first (simp (ne-eqb x 43 p, ne-eqb x 45 m) (rw (at-other s at h (w .stop h))));
+        }
 
 -- ---- a run of digits
 
@@ -78,7 +96,7 @@ module _ {s : List ℕ} {from v : ℕ} (below : Bool) (p : ℕ) (x y pre : List 
   run-stopped {sum} {count} {next} r h =
       sym (number-bad (minusIf below) p x y (pre ++ r .digits) (getD s next 0) (unblanked (drop (next + 1) s)) (e ∙ rw (run-part r h, append-assoc)) (r .no-digit h))
 
-  pub run-over : RanOver s from v → Refused ≡ numberRead (minusIf below) p x y
+  pub run-over : RunTooLarge s from v → Refused ≡ numberRead (minusIf below) p x y
   run-over r =
       sym (number-over (minusIf below) p x y (pre ++ r .digits) (r .more) (e ∙ rw (r .rest, append-assoc)) (rw (sums pre (r .digits) hv) (r .high)))
 
@@ -98,7 +116,7 @@ module _ {s : List ℕ} {from : ℕ} (below : Bool) where
   pub whole-stopped : {sum count next : ℕ} → Ran s from 0 sum count next → next < length s → Refused ≡ readDigits I (minusIf below) (unblanked (drop from s))
   whole-stopped r h = run-stopped {s = s} {from = from} below 0 (unblanked (drop from s)) [] [] (append-nil (unblanked (drop from s))) tt value-none r h
 
-  pub whole-over : RanOver s from 0 → Refused ≡ readDigits I (minusIf below) (unblanked (drop from s))
+  pub whole-over : RunTooLarge s from 0 → Refused ≡ readDigits I (minusIf below) (unblanked (drop from s))
   whole-over r = run-over {s = s} {from = from} below 0 (unblanked (drop from s)) [] [] (append-nil (unblanked (drop from s))) tt value-none r
 
 -- ---- under F, after the point: the digits `whole` stand before it
@@ -120,7 +138,7 @@ module _ {s : List ℕ} {from v : ℕ} (below : Bool) (whole : List ℕ) (d : Di
       let t : List ℕ = unblanked (drop from s) in
       run-stopped {s = s} {from = from} below (length t) whole t whole refl d hv r h
 
-  pub fraction-over : RanOver s from v → Refused ≡ numberRead (minusIf below) (length (unblanked (drop from s))) whole (unblanked (drop from s))
+  pub fraction-over : RunTooLarge s from v → Refused ≡ numberRead (minusIf below) (length (unblanked (drop from s))) whole (unblanked (drop from s))
   fraction-over r =
       let t : List ℕ = unblanked (drop from s) in
       run-over {s = s} {from = from} below (length t) whole t whole refl d hv r
@@ -153,7 +171,7 @@ module _ {s : List ℕ} {from : ℕ} (below : Bool) (d : ℕ) where
       let f : fromPoint (ds ++ (46 ∷ y)) ≡ 46 ∷ y = from-digits ds (46 ∷ y) (r .all) ∙ at-point y .1 in
       rw (run-part r h, e) (simp (b, f, lt-ltb 0 (suc (length y)) (omega arith)))
 
-  pub units-over : RanOver s from 0 → Refused ≡ readDigits (F d) (minusIf below) (unblanked (drop from s))
+  pub units-over : RunTooLarge s from 0 → Refused ≡ readDigits (F d) (minusIf below) (unblanked (drop from s))
   units-over r =
       let ds : List ℕ = r .digits in
       let y : List ℕ = drop 1 (fromPoint (ds ++ r .more)) in

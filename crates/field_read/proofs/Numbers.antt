@@ -10,18 +10,13 @@ use borrow.Author.Tests.{eq-eqb, ne-eqb, lt-ltb, le-ltb, le-leb, lt-leb, leb-tru
 use lib.Dec.{leb, eqb, ltb}
 use lib.ListN.{length, drop}
 use Rattle.number.specs.Magnitude.{largest, withSign}
-use Rattle.number.specs.Digits.{Digits, value}
+use Rattle.number.specs.Digits.{Digits, allDigits, value}
 use Rattle.number.proofs.PowerLaws.{ten-pos}
-use Rattle.number.proofs.DigitLaws.{value-append}
+use Rattle.number.proofs.DigitLaws.{value-append, all-digits}
 use Rattle.field_written.specs.Numeral.{Numeric, I, F, Sign, none, plus, signed}
 use Rattle.field_written.specs.Written.{minusIf}
-use Rattle.field_read.specs.Read.{allDigits, beforePoint, fromPoint, numberRead, readDigits}
+use Rattle.field_read.specs.Read.{beforePoint, fromPoint, numberRead, readDigits}
 use Rattle.field_read.specs.declared.FieldRead.the-variants.{Number, Refused}
-
-pub all-digits : (ds : List ℕ) → Digits ds → allDigits ds ≡ true
-unfolding allDigits
-all-digits [] h = refl
-all-digits (x ∷ xs) h = simp (le-leb 48 x (h .0), le-leb x 57 (h .1), all-digits xs (h .2))
 
 -- no digit
 abbrev pub Other : ℕ → Type 0

@@ -10,14 +10,15 @@ use borrow.Author.Tests.{ne-eqb, lt-ltb, ltb-false}
 use lib.Dec.{eqb, ltb}
 use lib.ListN.{length, drop, replicate, length-append}
 use lib.IntN.{ℤ, pos, negℤ, natAbs}
-use Rattle.number.specs.Magnitude.{largest}
+use Rattle.buffer.specs.Characters.{asterisk}
+use Rattle.number.specs.Magnitude.{largest, mostPlaces}
 use Rattle.number.specs.Digits.{Digits, value}
-use Rattle.number.specs.Rounding.{roundedUnits, tooLarge}
+use Rattle.number.specs.Rounding.{roundedUnits}
 use Rattle.number.proofs.DigitLaws.{digits-append}
 use Rattle.field_written.specs.Numeral.{Setting, Numeric, I, F, places, point, Sign, none, plus, minus, signBytes, signed, Numeral, characters, standsFor}
-use Rattle.field_written.specs.Written.{field, starred}
-use Rattle.field_written.proofs.Promises.{unstarred-is-numeral}
-use Rattle.field_read.specs.Read.{unblanked, signOf, afterSign, beforePoint, fromPoint, numberRead, placesRead, readDigits, readField}
+use Rattle.field_written.specs.Written.{field, starred, decimalField, putDecimal, putRefusal, putStarred}
+use Rattle.field_written.proofs.Promises.{unstarred-is-numeral, Case, large, narrow-case, wide-case, case-of, clash, small-units}
+use Rattle.field_read.specs.Read.{unblanked, signOf, afterSign, beforePoint, fromPoint, numberRead, placesRead, readDigits, readField, readRefusal, shownDecimal}
 use Rattle.field_read.specs.Promises.{NumeralReads, IntegerReadsBack, DecimalReadsBack, StarsRefused}
 use Rattle.field_read.specs.declared.FieldRead.the-variants.{Number, Refused}
 use Rattle.field_read.proofs.Blanks.{unblanked-append, unblanked-blanks, unblanked-digits}
@@ -95,30 +96,37 @@ numeral-reads g f w t l h =
     ∙ digits-read f (t .sign) (t .whole) (t .fraction) (t .whole-digits) (t .fraction-digits) (t .exactly) l (t .some) m
 
 -- a field that is not starred reads as its value
-unstarred-reads : (g : Setting) (f : Numeric) (w : ℕ) (n : ℤ) → places f ≤ 9 → natAbs n ≤ largest → starred g f w n ≡ false → readField f (field g f w n) ≡ Number n (places f)
+unstarred-reads : (g : Setting) (f : Numeric) (w : ℕ) (n : ℤ) → places f ≤ mostPlaces → natAbs n ≤ largest → starred g f w n ≡ false → readField f (field g f w n) ≡ Number n (places f)
 unstarred-reads g f w n l h e =
-    let t = unstarred-is-numeral g f w n h e in
+    let t = unstarred-is-numeral g f w n e in
     rw (← t .1) (numeral-reads g f w (t .0) l (rw (t .2) h) ∙ rw (t .2))
 
 pub integer-reads-back : IntegerReadsBack
 integer-reads-back g w n h e = unstarred-reads g I w n (omega arith) h e
 
 pub decimal-reads-back : DecimalReadsBack
-unfolding tooLarge
-decimal-reads-back g w d u s l h e = unstarred-reads g (F d) w (roundedUnits u s d) l (ltb-false largest (natAbs (roundedUnits u s d)) h) e
+decimal-reads-back g w d u s l r k = go (case-of g w d u s)
+  where
+    go : Case g w d u s → readField (F d) (decimalField g w d u s) ≡ shownDecimal u s d
+    go (large p e) = clash putRefusal e r (λ z. omega arith)
+    go (narrow-case p q e) = clash putStarred e k (λ z. omega arith)
+    go (wide-case p q e) = unstarred-reads g (F d) w (roundedUnits u s d) l (small-units u s d p) q
 
-unblanked-stars : (w : ℕ) → unblanked (replicate w 42) ≡ replicate w 42
+unblanked-stars : (w : ℕ) → unblanked (replicate w asterisk) ≡ replicate w asterisk
 unfolding unblanked
 unblanked-stars zero = refl
 unblanked-stars (suc w) = rw (unblanked-stars w)
 
+stars-read : (f : Numeric) (w : ℕ) → readField f (replicate (suc w) asterisk) ≡ Refused
+stars-read I w =
+    read-some I (replicate (suc w) asterisk) asterisk (replicate w asterisk) (unblanked-stars (suc w))
+    ∙ number-bad none 0 (asterisk ∷ replicate w asterisk) [] [] asterisk (replicate w asterisk ++ []) refl (λ q. omega arith)
+stars-read (F d) w =
+    let t : List ℕ = asterisk ∷ replicate w asterisk in
+    let y : List ℕ = drop 1 (fromPoint t) in
+    read-some (F d) (replicate (suc w) asterisk) asterisk (replicate w asterisk) (unblanked-stars (suc w))
+    ∙ number-bad none (placesRead d t) (beforePoint t) y [] asterisk (beforePoint (replicate w asterisk) ++ y) (ap (λ (x : List ℕ). x ++ y) (before-other asterisk (replicate w asterisk) (λ q. omega arith))) (λ q. omega arith)
+
 pub stars-refused : StarsRefused
 stars-refused f zero h = absurd (not-suc-le-zero h)
-stars-refused I (suc w) h =
-    read-some I (replicate (suc w) 42) 42 (replicate w 42) (unblanked-stars (suc w))
-    ∙ number-bad none 0 (42 ∷ replicate w 42) [] [] 42 (replicate w 42 ++ []) refl (λ q. omega arith)
-stars-refused (F d) (suc w) h =
-    let t : List ℕ = 42 ∷ replicate w 42 in
-    let y : List ℕ = drop 1 (fromPoint t) in
-    read-some (F d) (replicate (suc w) 42) 42 (replicate w 42) (unblanked-stars (suc w))
-    ∙ number-bad none (placesRead d t) (beforePoint t) y [] 42 (beforePoint (replicate w 42) ++ y) (ap (λ (x : List ℕ). x ++ y) (before-other 42 (replicate w 42) (λ q. omega arith))) (λ q. omega arith)
+stars-refused f (suc w) h = ap readRefusal (stars-read f w)

@@ -11,7 +11,7 @@ use Rattle.number.specs.Magnitude.{largest}
 use Rattle.number.specs.Digits.{Digits, value}
 use Rattle.number.proofs.DigitLaws.{value-append, digits-append}
 use Rattle.field_read.specs.Read.{unblanked}
-use Rattle.field_read.specs.Steps.{Ran, RanOver}
+use Rattle.field_read.specs.Steps.{Ran, RunTooLarge}
 use Rattle.field_read.proofs.Blanks.{at-blank, at-other}
 
 -- up to i stand `count` digits, which after v make `sum`
@@ -96,6 +96,6 @@ module _ {s : List ℕ} {from v sum count i : ℕ} (w : Running s from v sum cou
           fewer = omega (arith, w .fewer);
         }
 
-    pub running-over : largest < sum * 10 + (getD s i 0 - 48) → RanOver s from v
+    pub running-over : largest < sum * 10 + (getD s i 0 - 48) → RunTooLarge s from v
     running-over b =
         record { digits = one; more = unblanked (drop (i + 1) s); all = one-digits; rest = one-rest; high = rw (← one-value) b }

@@ -1,3 +1,3 @@
 pub mod Read
-pub mod Steps
 pub mod Promises
+pub mod Steps

@@ -1,48 +1,59 @@
--- What the readers' steps find in a field s: the blanks in front, the sign, a run of digits.
+-- What the inner readers find in a field s: the blanks in front, the sign, a run of digits. Their contracts cite it, no
+-- promise does.
 -- Assumes nothing.
 use mathlib.Core.Path.{_≡_}
-use mathlib.Core.Bool.{Bool}
+use mathlib.Core.Bool.{Bool, true, false}
 use mathlib.Core.List.{List, [], _++_}
 use Prim.Native.Nat.{ℕ, _+_, _*_, _^_, _<_, _≤_}
 use lib.ListN.{length, drop, getD}
+use Rattle.buffer.specs.Characters.{blank, digitZero, digitNine}
 use Rattle.number.specs.Magnitude.{largest}
 use Rattle.number.specs.Digits.{Digits, value}
-use Rattle.field_written.specs.Numeral.{Numeric}
-use Rattle.field_written.specs.Written.{minusIf}
-use Rattle.field_read.specs.Read.{unblanked, readDigits, readField}
+use Rattle.field_written.specs.Numeral.{Sign, none, plus, minus}
+use Rattle.field_read.specs.Read.{unblanked, signOf, afterSign}
 use Rattle.field_read.specs.declared.Front.{Front}
-use Rattle.field_read.specs.declared.Front.the-variants.{Nothing, Signed}
+use Rattle.field_read.specs.declared.Front.the-variants.{Nothing, Found}
 use Rattle.field_read.specs.declared.Run.{Run}
-use Rattle.field_read.specs.declared.Run.the-variants.{Digits as Found, TooLarge}
+use Rattle.field_read.specs.declared.Run.the-variants as run
 
 -- the first place that is not blank; the length where all are
 pub record Skipped (s : List ℕ) (to : ℕ) : Type 0 where
   pub past : to ≤ length s
   pub same : unblanked s ≡ unblanked (drop to s)
-  pub stop : to < length s → getD s to 0 ≡ 32 → ⊥
+  pub stop : to < length s → getD s to 0 ≡ blank → ⊥
 
--- nothing but blanks; or the sign is read and the digits start at `from`
+abbrev pub isMinus : Sign → Bool
+isMinus none = false
+isMinus plus = false
+isMinus minus = true
+
+-- something is left of s without its blanks: a minus or none, and what follows the sign starts at `from`
+pub record Signed (s : List ℕ) (below : Bool) (from : ℕ) : Type 0 where
+  pub past : from ≤ length s
+  pub some : 0 < length (unblanked s)
+  pub sign : below ≡ isMinus (signOf (unblanked s))
+  pub rest : afterSign (unblanked s) ≡ unblanked (drop from s)
+
 abbrev pub FrontIs : List ℕ → Front → Type 0
 FrontIs s Nothing = unblanked s ≡ []
-FrontIs s (Signed below from) =
-    (from ≤ length s) × ((f : Numeric) → readField f s ≡ readDigits f (minusIf below) (unblanked (drop from s)))
+FrontIs s (Found below from) = Signed s below from
 
--- from `from` on stand `count` digits, blanks among them, which after the number v make the number `sum`; at `next`
--- stands something else, or s ends
-pub record Ran (s : List ℕ) (from v sum count next : ℕ) : Type 0 where
+-- from `from` on stand `count` digits, blanks among them, which after the number v make the number m; at `next` stands
+-- something else, or s ends. (There are no more digits than places, so that `count` does not overflow.)
+pub record Ran (s : List ℕ) (from v m count next : ℕ) : Type 0 where
   pub digits : List ℕ
   pub all : Digits digits
   pub rest : unblanked (drop from s) ≡ digits ++ unblanked (drop next s)
   pub many : count ≡ length digits
-  pub is : sum ≡ v * 10 ^ length digits + value digits
-  pub low : sum ≤ largest
+  pub is : m ≡ v * 10 ^ length digits + value digits
+  pub low : m ≤ largest
   pub past : next ≤ length s
   pub fewer : count ≤ next
-  pub no-blank : next < length s → getD s next 0 ≡ 32 → ⊥
-  pub no-digit : next < length s → 48 ≤ getD s next 0 → 57 < getD s next 0
+  pub no-blank : next < length s → getD s next 0 ≡ blank → ⊥
+  pub no-digit : next < length s → digitZero ≤ getD s next 0 → digitNine < getD s next 0
 
--- the digits from `from` on make too large a number
-pub record RanOver (s : List ℕ) (from v : ℕ) : Type 0 where
+-- from `from` on stand digits which after the number v make too large a number
+pub record RunTooLarge (s : List ℕ) (from v : ℕ) : Type 0 where
   pub digits : List ℕ
   pub more : List ℕ
   pub all : Digits digits
@@ -50,5 +61,5 @@ pub record RanOver (s : List ℕ) (from v : ℕ) : Type 0 where
   pub high : largest < v * 10 ^ length digits + value digits
 
 abbrev pub RunIs : List ℕ → ℕ → ℕ → Run → Type 0
-RunIs s from v (Found sum count next) = Ran s from v sum count next
-RunIs s from v TooLarge = RanOver s from v
+RunIs s from v (run.Digits m count next) = Ran s from v m count next
+RunIs s from v run.TooLarge = RunTooLarge s from v

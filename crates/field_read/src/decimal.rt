@@ -6,37 +6,11 @@ use crate::digits::number_of;
 use crate::digits::read_run;
 use crate::leading::read_front;
 ghost use mathlib.Core.Path.{_≡_};
-ghost use mathlib.Core.List.{List};
-ghost use Prim.Native.Nat.{ℕ, _+_, _<_, _≤_};
+ghost use Prim.Native.Nat.{_≤_};
 ghost use lib.ListN.{length, drop};
-ghost use Rattle.number.specs.Magnitude.{largest};
-ghost use Rattle.number.specs.Digits.{Digits, value};
 ghost use Rattle.field_written.specs.Numeral.{F};
 ghost use Rattle.field_written.specs.Written.{minusIf};
-ghost use Rattle.field_read.specs.Read.{unblanked, numberRead, readDigits, readField};
-
-// The digits after the point, from `from` on, after `count` digits that make the number m.
-fn read_fraction(part: &[u8], from: usize, below: bool, m: u64, count: usize) -> FieldRead
-    requires { ⌜ (from ≤ length (now part)) × (m ≤ largest) × (count < from) ⌝ }
-    ensures { λ r. ⌜ ((whole : List ℕ) → Digits whole → m ≡ value whole → count ≡ length whole → r ≡ numberRead (minusIf below) (length (unblanked (drop from (now (part .entry))))) whole (unblanked (drop from (now (part .entry))))) ⌝ }
-{
-    match read_run(part, from, m) {
-        Run::Digits {
-            value,
-            count: places,
-            next,
-        } => {
-            if next < part.len() {
-                return FieldRead::Refused;
-            }
-            if 9 < places {
-                return FieldRead::Refused;
-            }
-            number_of(count + places, below, value, places)
-        }
-        Run::TooLarge => FieldRead::Refused,
-    }
-}
+ghost use Rattle.field_read.specs.Read.{unblanked, readDigits, readField};
 
 // The digits of a decimal, with a point or d places, from `from` on.
 fn read_units(part: &[u8], from: usize, below: bool, d: usize) -> FieldRead
@@ -51,7 +25,22 @@ fn read_units(part: &[u8], from: usize, below: bool, d: usize) -> FieldRead
             if part[next] != b'.' {
                 return FieldRead::Refused;
             }
-            read_fraction(part, next + 1, below, value, count)
+            match read_run(part, next + 1, value) {
+                Run::Digits {
+                    value: units,
+                    count: places,
+                    next: end,
+                } => {
+                    if end < part.len() {
+                        return FieldRead::Refused;
+                    }
+                    if 9 < places {
+                        return FieldRead::Refused;
+                    }
+                    number_of(count + places, below, units, places)
+                }
+                Run::TooLarge => FieldRead::Refused,
+            }
         }
         Run::TooLarge => FieldRead::Refused,
     }
@@ -66,6 +55,6 @@ pub fn read_decimal(part: &[u8], d: usize) -> FieldRead
             units: 0,
             places: d,
         },
-        Front::Signed { below, from } => read_units(part, from, below, d),
+        Front::Found { below, from } => read_units(part, from, below, d),
     }
 }

@@ -29,21 +29,21 @@ pub fn read_run(part: &[u8], from: usize, v: u64) -> Run
         if b == b' ' {
             i += 1;
         } else {
-            if b < 48 {
+            if b < b'0' {
                 return Run::Digits {
                     value,
                     count,
                     next: i,
                 };
             }
-            if 57 < b {
+            if b'9' < b {
                 return Run::Digits {
                     value,
                     count,
                     next: i,
                 };
             }
-            value = value * 10 + wide(b - 48);
+            value = value * 10 + wide(b - b'0');
             if LARGEST < value {
                 return Run::TooLarge;
             }
@@ -58,7 +58,7 @@ pub fn read_run(part: &[u8], from: usize, v: u64) -> Run
     }
 }
 
-// The number of `count` digits, which are none too many; without a digit there is none.
+// The number m with its sign, made by `count` digits; without a digit there is no number.
 pub fn number_of(count: usize, below: bool, m: u64, places: usize) -> FieldRead
     requires { ⌜ m ≤ largest ⌝ }
     ensures { λ r. ⌜ r ≡ cond (eqb count 0) FieldRead.Refused (FieldRead.Number (withSign below m) places) ⌝ }

@@ -37,6 +37,6 @@ pub fn read_integer(part: &[u8]) -> FieldRead
             units: 0,
             places: 0,
         },
-        Front::Signed { below, from } => read_whole(part, from, below),
+        Front::Found { below, from } => read_whole(part, from, below),
     }
 }

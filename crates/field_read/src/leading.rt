@@ -26,18 +26,18 @@ pub fn read_front(part: &[u8]) -> Front
     }
     let b = part[at];
     if b == b'+' {
-        return Front::Signed {
+        return Front::Found {
             below: false,
             from: at + 1,
         };
     }
     if b == b'-' {
-        return Front::Signed {
+        return Front::Found {
             below: true,
             from: at + 1,
         };
     }
-    Front::Signed {
+    Front::Found {
         below: false,
         from: at,
     }

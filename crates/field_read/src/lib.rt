@@ -10,14 +10,14 @@ pub enum FieldRead {
     Refused,
 }
 
-// What stands in front of the digits.
-pub enum Front {
+// What stands before the digits of a field: nothing but blanks, or a sign or none, and the place after it.
+enum Front {
     Nothing,
-    Signed { below: bool, from: usize },
+    Found { below: bool, from: usize },
 }
 
 // A run of digits: the number that they make, how many they are, and the place after them.
-pub enum Run {
+enum Run {
     Digits {
         value: u64,
         count: usize,

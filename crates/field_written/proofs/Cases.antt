@@ -1,150 +1,170 @@
 -- The numeric field by cases on its width.
 -- Assumes nothing.
 use mathlib.Core.Path.{_≡_, refl, sym, ap, subst, _∙_}
-use mathlib.Core.Bool.{Bool, true, false, _&&_, cond}
-use mathlib.Core.List.{List, [], _∷_, _++_, append-nil}
+use mathlib.Core.Bool.{Bool, true, false, cond}
+use mathlib.Core.List.{List, _++_, append-nil}
 use Prim.Native.Nat.{ℕ, zero, suc, _+_, _-_, _/_, _%_, _^_, _<_, _≤_}
-use native.Mathlib.Nat.{div-one, mod-lt}
+use native.Mathlib.Nat.{div-one, div-le-self, mod-lt, le-trans}
 use native.Mathlib.Omega.{arith}
-use borrow.Author.Tests.{lt-ltb, le-ltb, le-leb, lt-leb, leb-true, leb-false}
-use lib.Dec.{ltb, leb, eqb}
+use borrow.Author.Tests.{lt-ltb, le-ltb, le-leb, lt-leb, ltb-true, ltb-false}
+use lib.Dec.{ltb, leb}
 use lib.ListN.{length, replicate, length-append}
+use Rattle.buffer.specs.Characters.{blank, asterisk}
 use Rattle.number.specs.Magnitude.{largest}
 use Rattle.number.specs.Digits.{digitsOf, digitCount}
 use Rattle.number.proofs.PowerLaws.{ten-pos}
-use Rattle.number.proofs.DigitLaws.{length-digits, digits-cut}
+use Rattle.number.proofs.DigitLaws.{length-digits, digits-cut, digitCount-least, digitCount-holds, digitCount-pos}
 use Rattle.field_written.specs.Numeral.{Numeric, I, F, places, point, Sign, signBytes, layout}
-use Rattle.field_written.specs.Written.{numeral, most, fewest, fieldText, tooNarrow}
-use Rattle.field_written.proofs.Fewest.{most-holds, fewest-holds}
+use Rattle.field_written.specs.Written.{mostDigits, fewestDigits, numeralText, fieldText, fewestColumns}
+use Rattle.field_written.proofs.Fewest.{wholePart, Fewest, gone, kept, fewest-cases, most-holds, most-zero, most-some, fewest-most, fewest-holds, fewest-integer, fewest-none, fewest-some}
 
 -- the columns beside the digits before the point
 unfoldable pub beside : Numeric → Sign → ℕ
 beside f s = length (signBytes s) + (length (point f) + places f)
 
-pub length-numeral : (f : Numeric) (s : Sign) (k m : ℕ) → length (numeral f s k m) ≡ beside f s + k
-unfolding numeral beside
+pub length-numeral : (f : Numeric) (s : Sign) (k m : ℕ) → length (numeralText f s k m) ≡ beside f s + k
+unfolding numeralText beside
 length-numeral f s k m = simp (length-append, length-digits) (omega arith)
 
--- w columns against a numeral with k digits before the point, of `full` at most and `few` at least
-module _ {w full few : ℕ} (f : Numeric) (s : Sign) (m : ℕ) (hfull : full ≡ most f m) (hfew : few ≡ fewest f m) where
-  pub stars : few ≤ full → w < beside f s + few → (tooNarrow f w s m ≡ true) × (fieldText f w s m ≡ replicate w 42)
-  unfolding tooNarrow fieldText
-  stars l h =
-      let a = length-numeral f s (most f m) m in
-      let b = length-numeral f s (fewest f m) m in (
-        lt-ltb w (length (numeral f s (fewest f m) m)) (omega arith),
-        simp (lt-leb (length (numeral f s (most f m) m)) w (omega arith), lt-leb (length (numeral f s (fewest f m) m)) w (omega arith)),
-      )
+-- the text in w columns, with k digits before the point
+abbrev pub shownText : Numeric → ℕ → Sign → ℕ → ℕ → List ℕ
+shownText f w s k m = replicate (w - beside f s - k) blank ++ numeralText f s k m
 
-  roomy : beside f s + full ≤ w → fieldText f w s m ≡ replicate (w - beside f s - full) 32 ++ numeral f s full m
+module _ (f : Numeric) (w : ℕ) (s : Sign) (m : ℕ) where
+  pub columns-are : fewestColumns f s m ≡ beside f s + fewestDigits f m
+  unfolding fewestColumns
+  columns-are = length-numeral f s (fewestDigits f m) m
+
+  pub stars : w < fewestColumns f s m → fieldText f w s m ≡ replicate w asterisk
   unfolding fieldText
-  roomy h =
-      let a = length-numeral f s (most f m) m in
-      let e : w - length (numeral f s (most f m) m) ≡ w - beside f s - full = omega arith in
-      simp (le-leb (length (numeral f s (most f m) m)) w (omega arith)) (rw (e, hfull))
+  stars h =
+      let a = length-numeral f s (mostDigits f m) m in
+      let b = length-numeral f s (fewestDigits f m) m in
+      let c = columns-are in
+      let l = fewest-most f m in
+      simp (lt-leb (length (numeralText f s (mostDigits f m) m)) w (omega arith), lt-leb (length (numeralText f s (fewestDigits f m) m)) w (omega arith))
 
-  tight : beside f s + few ≤ w → w < beside f s + full → fieldText f w s m ≡ replicate (w - beside f s - few) 32 ++ numeral f s few m
+  pub with-most : {k : ℕ} → k ≡ mostDigits f m → beside f s + k ≤ w → fieldText f w s m ≡ shownText f w s k m
   unfolding fieldText
-  tight h g =
-      let a = length-numeral f s (most f m) m in
-      let b = length-numeral f s (fewest f m) m in
-      let e : w - length (numeral f s (fewest f m) m) ≡ w - beside f s - few = omega arith in
-      simp (lt-leb (length (numeral f s (most f m) m)) w (omega arith), le-leb (length (numeral f s (fewest f m) m)) w (omega arith))
-      (rw (e, hfew))
+  with-most {k} q h =
+      let a = length-numeral f s (mostDigits f m) m in
+      let e : w - length (numeralText f s (mostDigits f m) m) ≡ w - beside f s - k = omega arith in
+      simp (le-leb (length (numeralText f s (mostDigits f m) m)) w (omega arith)) (rw (e, q))
 
-  wide : beside f s + few ≤ w → tooNarrow f w s m ≡ false
-  unfolding tooNarrow
-  wide h = le-ltb w (length (numeral f s (fewest f m) m)) (omega (arith, length-numeral f s (fewest f m) m))
+  pub with-fewest : {k : ℕ} → k ≡ fewestDigits f m → beside f s + k ≤ w → w < beside f s + mostDigits f m → fieldText f w s m ≡ shownText f w s k m
+  unfolding fieldText
+  with-fewest {k} q h g =
+      let a = length-numeral f s (mostDigits f m) m in
+      let b = length-numeral f s (fewestDigits f m) m in
+      let e : w - length (numeralText f s (fewestDigits f m) m) ≡ w - beside f s - k = omega arith in
+      simp (lt-leb (length (numeralText f s (mostDigits f m) m)) w (omega arith), le-leb (length (numeralText f s (fewestDigits f m) m)) w (omega arith))
+      (rw (e, q))
 
-  -- k is `full` where that has room, and else `few`
-  pub shows : {k : ℕ} → beside f s + few ≤ w → k ≡ cond (leb full (w - beside f s)) full few → (tooNarrow f w s m ≡ false) × (beside f s + k ≤ w) × (fieldText f w s m ≡ replicate (w - beside f s - k) 32 ++ numeral f s k m)
-  shows {k} h e = go (leb full (w - beside f s)) refl e
-    where
-      go : (b : Bool) → leb full (w - beside f s) ≡ b → k ≡ cond b full few → (tooNarrow f w s m ≡ false) × (beside f s + k ≤ w) × (fieldText f w s m ≡ replicate (w - beside f s - k) 32 ++ numeral f s k m)
-      go true q r =
-          let l = leb-true full (w - beside f s) q in
-          rw r (wide h, omega arith, roomy (omega arith))
-      go false q r =
-          let l = leb-false full (w - beside f s) q in
-          rw r (wide h, h, tight h (omega arith))
+-- ---- an integer, as the code has its numbers: a sign of s columns, `need` in all
 
--- ---- the field of an integer, as the code has its numbers: a sign of s columns and k digits
-
-most-integer : (m : ℕ) → most I m ≡ digitCount m
-unfolding most
-most-integer m = rw (div-one m)
-
-fewest-integer : (m : ℕ) → fewest I m ≡ digitCount m
-unfolding fewest
-fewest-integer m = most-integer m
-
-either : (b : Bool) (k : ℕ) → k ≡ cond b k k
-either true k = refl
-either false k = refl
-
-numeral-integer : (s : Sign) (k m : ℕ) → numeral I s k m ≡ signBytes s ++ digitsOf k m
-unfolding numeral digitsOf
+numeral-integer : (s : Sign) (k m : ℕ) → numeralText I s k m ≡ signBytes s ++ digitsOf k m
+unfolding numeralText digitsOf
 numeral-integer s k m = rw (div-one m) (simp append-nil)
 
-module _ {s k : ℕ} (sign : Sign) (m : ℕ) (hs : s ≡ length (signBytes sign)) (hk : k ≡ digitCount m) where
-  beside-integer : beside I sign ≡ s
+pub integer-need : {s k : ℕ} (sign : Sign) (m : ℕ) → s ≡ length (signBytes sign) → k ≡ digitCount m → s + k ≡ fewestColumns I sign m
+unfolding beside
+integer-need sign m hs hk = omega (arith, columns-are I 0 sign m, fewest-integer m .0)
+
+module _ {s need : ℕ} (sign : Sign) (m : ℕ) (hs : s ≡ length (signBytes sign)) (hn : need ≡ fewestColumns I sign m) where
+  digits-need : need ≡ s + digitCount m
+  digits-need = hn ∙ sym (integer-need sign m hs refl)
+
+  pub integer-digits : m ≤ largest → (s < need) × (need - s < 19) × (m < 10 ^ (need - s))
+  integer-digits h =
+      let n : need - s ≡ digitCount m = omega (arith, digits-need) in
+      (omega (arith, digits-need, digitCount-pos m), omega (arith, digitCount-least m 18 (omega arith) (omega arith)), rw n (digitCount-holds m))
+
+  pub integer-shows : {w : ℕ} → need ≤ w → fieldText I w sign m ≡ replicate (w - need) blank ++ (signBytes sign ++ digitsOf (need - s) m)
   unfolding beside
-  beside-integer = omega arith
-
-  pub integer-stars : {w : ℕ} → w < s + k → (true ≡ tooNarrow I w sign m) × (fieldText I w sign m ≡ replicate w 42)
-  integer-stars {w} h =
-      let e = stars {w = w} I sign m (hk ∙ sym (most-integer m)) (hk ∙ sym (fewest-integer m)) (omega arith) (omega (arith, beside-integer)) in
-      (sym (e .0), e .1)
-
-  pub integer-shows : {w : ℕ} → s + k ≤ w → (false ≡ tooNarrow I w sign m) × (fieldText I w sign m ≡ replicate (w - (s + k)) 32 ++ (signBytes sign ++ digitsOf k m))
   integer-shows {w} h =
-      let e = shows {w = w} I sign m (hk ∙ sym (most-integer m)) (hk ∙ sym (fewest-integer m)) (omega (arith, beside-integer)) (either (leb k (w - beside I sign)) k) in
-      let b : w - beside I sign - k ≡ w - (s + k) = omega (arith, beside-integer) in
-      (sym (e .0), e .2 ∙ rw (b, numeral-integer sign k m))
+      let k : ℕ = need - s in
+      let q : k ≡ mostDigits I m = omega (arith, digits-need, fewest-integer m .1) in
+      let e : w - (length (signBytes sign) + 0) - k ≡ w - need = omega (arith, digits-need) in
+      with-most I w sign m q (omega (arith, digits-need)) ∙ rw (e, numeral-integer sign k m)
 
--- ---- the field of a decimal, as the code has its numbers
+-- ---- a decimal
 
--- the sign's columns s, the power p, and the digits before the point: full, or few at least
-pub record Counted (sign : Sign) (d m s p full few : ℕ) : Type 0 where
+pub decimal-need : {s k : ℕ} (sign : Sign) (d m : ℕ) → s ≡ length (signBytes sign) → k ≡ digitCount m → (k ≤ d → s + 1 + d ≡ fewestColumns (F d) sign m) × (d < k → s + 1 + k ≡ fewestColumns (F d) sign m)
+unfolding beside
+decimal-need {s} {k} sign d m hs hk = (
+  λ h. omega (arith, columns-are (F d) 0 sign m, fewest-none d m (omega arith)),
+  λ h. omega (arith, columns-are (F d) 0 sign m, fewest-some d m (omega arith)),
+)
+
+-- sign, point and fraction are among them
+pub decimal-rest : {s need : ℕ} (sign : Sign) (d m : ℕ) → s ≡ length (signBytes sign) → need ≡ fewestColumns (F d) sign m → s + 1 + d ≤ need
+unfolding beside
+decimal-rest sign d m hs hn = omega (arith, columns-are (F d) 0 sign m)
+
+-- the code's numbers: the sign's columns s, the power p, the columns needed, and k digits before the point
+pub record Counted (w : ℕ) (sign : Sign) (d m s p need k : ℕ) : Type 0 where
   pub columns : s ≡ length (signBytes sign)
   pub power : p ≡ 10 ^ d
-  pub most-is : full ≡ digitCount (m / p)
-  pub fewest-is : few ≡ cond (ltb 0 d && eqb (m / p) 0) 0 full
-  pub no-more : few ≤ full
+  pub needed : need ≡ fewestColumns (F d) sign m
+  pub room : need ≤ w
+  pub shown : k ≡ cond (ltb 0 (need - (s + 1 + d))) (need - (s + 1 + d)) (cond (ltb 0 (w - need)) 1 0)
 
-module _ {sign : Sign} {d m s p full few : ℕ} (n : Counted sign d m s p full few) where
-  full-is : full ≡ most (F d) m
-  unfolding most
-  full-is = n .most-is ∙ rw (n .power)
+-- they show the field
+pub record Showing (w : ℕ) (sign : Sign) (d m s p k : ℕ) : Type 0 where
+  pub fits : s + 1 + d + k ≤ w
+  pub few : m ≤ largest → k < 19
+  pub whole : m / p < 10 ^ k
+  pub fraction : m % p < 10 ^ d
+  pub is : fieldText (F d) w sign m ≡ replicate (w - (s + 1 + d) - k) blank ++ layout (F d) 0 sign (digitsOf k (m / p)) (digitsOf d (m % p))
 
-  few-is : few ≡ fewest (F d) m
-  unfolding fewest
-  few-is = n .fewest-is ∙ rw (← full-is, n .power)
-
+module _ {w : ℕ} {sign : Sign} {d m s p need k : ℕ} (n : Counted w sign d m s p need k) where
   beside-decimal : beside (F d) sign ≡ s + 1 + d
   unfolding beside
-  beside-decimal = omega arith
+  beside-decimal = omega (arith, n .columns)
 
-  pub decimal-stars : {w : ℕ} → w < s + 1 + d + few → (true ≡ tooNarrow (F d) w sign m) × (fieldText (F d) w sign m ≡ replicate w 42)
-  decimal-stars {w} h =
-      let e = stars {w = w} (F d) sign m full-is few-is (n .no-more) (omega (arith, beside-decimal)) in
-      (sym (e .0), e .1)
+  few-is : need - (s + 1 + d) ≡ fewestDigits (F d) m
+  few-is = omega (arith, n .needed, columns-are (F d) w sign m, beside-decimal)
 
-  numeral-decimal : (k : ℕ) → numeral (F d) sign k m ≡ layout (F d) 0 sign (digitsOf k (m / p)) (digitsOf d (m % p))
-  unfolding numeral
-  numeral-decimal k = rw (n .power, digits-cut d m)
+  need-is : need ≡ s + 1 + d + fewestDigits (F d) m
+  need-is = omega (arith, n .needed, columns-are (F d) w sign m, beside-decimal)
 
-  pub decimal-shows : {w k : ℕ} → s + 1 + d + few ≤ w → k ≡ cond (leb full (w - (s + 1 + d))) full few → (false ≡ tooNarrow (F d) w sign m) × (s + 1 + d + k ≤ w) × (fieldText (F d) w sign m ≡ replicate (w - (s + 1 + d) - k) 32 ++ layout (F d) 0 sign (digitsOf k (m / p)) (digitsOf d (m % p)))
-  decimal-shows {w} {k} h e =
-      let g = shows {w = w} (F d) sign m full-is few-is {k = k} (omega (arith, beside-decimal)) (rw beside-decimal e) in
-      (sym (g .0), omega (arith, g .1, beside-decimal), g .2 ∙ rw (beside-decimal, numeral-decimal k))
+  text-is : shownText (F d) w sign k m ≡ replicate (w - (s + 1 + d) - k) blank ++ layout (F d) 0 sign (digitsOf k (m / p)) (digitsOf d (m % p))
+  unfolding numeralText
+  text-is = rw (beside-decimal, n .power, digits-cut d m)
 
-  pub decimal-digits : {k : ℕ} (room : ℕ) → k ≡ cond (leb full room) full few → m ≤ largest → (m / p < 10 ^ k) × (k ≤ full) × (m % p < 10 ^ d)
-  decimal-digits {k} room e h = go (leb full room) e
+  most-low : m ≤ largest → mostDigits (F d) m < 19
+  unfolding mostDigits
+  most-low h = omega (arith, digitCount-least (m / 10 ^ d) 18 (omega arith) (omega (arith, div-le-self m (10 ^ d))))
+
+  showing : k ≤ mostDigits (F d) m → s + 1 + d + k ≤ w → wholePart (F d) m < 10 ^ k → fieldText (F d) w sign m ≡ shownText (F d) w sign k m → Showing w sign d m s p k
+  showing l r q e =
+      record {
+        fits = r;
+        few = λ h. omega (arith, most-low h);
+        whole = rw (n .power) q;
+        fraction = rw (n .power) (mod-lt m (ten-pos d));
+        is = e ∙ text-is;
+      }
+
+  pub decimal-shows : Showing w sign d m s p k
+  decimal-shows = go (ltb 0 (need - (s + 1 + d))) (ltb 0 (w - need)) refl refl (n .shown)
     where
-      rest : m % p < 10 ^ d
-      rest = rw (n .power) (mod-lt m (ten-pos d))
-
-      go : (b : Bool) → k ≡ cond b full few → (m / p < 10 ^ k) × (k ≤ full) × (m % p < 10 ^ d)
-      go true e = (rw (e, full-is, n .power) (most-holds (F d) m h), omega arith, rest)
-      go false e = (rw (e, few-is, n .power) (fewest-holds (F d) m h .0), omega (arith, n .no-more), rest)
+      go : (a b : Bool) → ltb 0 (need - (s + 1 + d)) ≡ a → ltb 0 (w - need) ≡ b → k ≡ cond a (need - (s + 1 + d)) (cond b 1 0) → Showing w sign d m s p k
+      go true b x y e =
+          let h = ltb-true 0 (need - (s + 1 + d)) x in
+          let q : k ≡ fewestDigits (F d) m = e ∙ few-is in
+          let r : k ≡ mostDigits (F d) m = q ∙ most-some (F d) m (omega (arith, few-is)) in
+          showing (omega arith) (omega (arith, need-is, n .room)) (rw q (fewest-holds (F d) m .0)) (with-most (F d) w sign m r (omega (arith, beside-decimal, need-is, n .room)))
+      go false true x y e =
+          let h = ltb-false 0 (need - (s + 1 + d)) x in
+          let g = ltb-true 0 (w - need) y in
+          let z : fewestDigits (F d) m ≡ 0 = omega (arith, few-is) in
+          let r : k ≡ mostDigits (F d) m = e ∙ sym (most-zero (F d) m z) in
+          showing (omega arith) (omega (arith, need-is)) (rw r (most-holds (F d) m)) (with-most (F d) w sign m r (omega (arith, beside-decimal, need-is)))
+      go false false x y e =
+          let h = ltb-false 0 (need - (s + 1 + d)) x in
+          let g = ltb-false 0 (w - need) y in
+          let q : k ≡ fewestDigits (F d) m = omega (arith, few-is) in
+          let o = most-zero (F d) m (omega (arith, few-is)) in
+          showing (omega arith) (omega (arith, need-is, n .room)) (rw q (fewest-holds (F d) m .0))
+          (with-fewest (F d) w sign m q (omega (arith, beside-decimal, need-is, n .room)) (omega (arith, beside-decimal, need-is)))

@@ -5,6 +5,7 @@ use mathlib.Core.List.{List, [], _∷_, _++_}
 use Prim.Native.Nat.{ℕ, _+_, _<_}
 use lib.ListN.{length, replicate}
 use lib.IntN.{ℤ, pos, negℤ}
+use Rattle.buffer.specs.Characters.{blank, plusSign, minusSign, pointSign}
 use Rattle.number.specs.Digits.{Digits, value}
 
 -- the descriptor of a numeric field, its width aside: Iw, and Fw.d
@@ -20,7 +21,7 @@ places (F d) = d
 -- 'a point', for F
 abbrev pub point : Numeric → List ℕ
 point I = []
-point (F d) = 46 ∷ []
+point (F d) = pointSign ∷ []
 
 -- '+ or − or no sign'
 pub data Sign : Type 0 where
@@ -28,8 +29,8 @@ pub data Sign : Type 0 where
 
 abbrev pub signBytes : Sign → List ℕ
 signBytes none = []
-signBytes plus = 43 ∷ []
-signBytes minus = 45 ∷ []
+signBytes plus = plusSign ∷ []
+signBytes minus = minusSign ∷ []
 
 -- 'negated after −'
 abbrev pub signed : Sign → ℕ → ℤ
@@ -39,9 +40,9 @@ signed minus m = negℤ (pos m)
 
 -- blanks, a sign, digits, and for F a point and digits
 abbrev pub layout : Numeric → ℕ → Sign → List ℕ → List ℕ → List ℕ
-layout f blanks sign whole fraction = replicate blanks 32 ++ (signBytes sign ++ (whole ++ (point f ++ fraction)))
+layout f blanks sign whole fraction = replicate blanks blank ++ (signBytes sign ++ (whole ++ (point f ++ fraction)))
 
--- the setting under which a field is written. There is one, and it permits every numeral.
+-- A setting says which numerals are permitted. Document 01 has one, which permits all; document 02 adds others.
 pub data Setting : Type 0 where
   plain : Setting
 
@@ -49,25 +50,27 @@ pub data Setting : Type 0 where
 abbrev pub Permitted : Setting → Sign → ℕ → Type 0
 Permitted plain sign m = Unit {0}
 
--- Term 'numeral of width w': w characters, 'blanks or none, then + or − or no sign, then for I one or more digits;
--- for F digits or none, a point, exactly d digits, with at least one digit in all'.
+-- Term 'numeral of width w', under a setting
 pub record Numeral (g : Setting) (f : Numeric) (w : ℕ) : Type 0 where
+  -- 'blanks or none, then + or − or no sign'
   pub blanks : ℕ
   pub sign : Sign
+  -- 'then for I one or more digits; for F digits or none, a point, exactly d digits'
   pub whole : List ℕ
   pub fraction : List ℕ
   pub whole-digits : Digits whole
   pub fraction-digits : Digits fraction
   pub exactly : length fraction ≡ places f
+  -- 'with at least one digit in all'
   pub some : 0 < length whole + length fraction
   pub permitted : Permitted g sign (value (whole ++ fraction))
+  -- 'is w characters'
   pub width : length (layout f blanks sign whole fraction) ≡ w
 
--- its characters
 abbrev pub characters : {g : Setting} {f : Numeric} {w : ℕ} → Numeral g f w → List ℕ
 characters {f = f} t = layout f (t .blanks) (t .sign) (t .whole) (t .fraction)
 
 -- 'It stands for the whole number that its digits make without the point, divided by 10^d for F, and negated after −':
--- for F the number is given in units of 10^-d.
+-- for F the number is given in units of 10^-d
 abbrev pub standsFor : {g : Setting} {f : Numeric} {w : ℕ} → Numeral g f w → ℤ
 standsFor t = signed (t .sign) (value (t .whole ++ t .fraction))

@@ -3,12 +3,16 @@
 use mathlib.Core.Path.{_≡_}
 use mathlib.Core.Logic.{_↔_}
 use mathlib.Core.Bool.{true, false}
+use mathlib.Core.List.{List}
 use Prim.Native.Nat.{ℕ, _≤_}
 use lib.ListN.{length, replicate}
 use lib.IntN.{ℤ, natAbs}
+use Rattle.buffer.specs.Characters.{asterisk}
+use Rattle.buffer.specs.Splice.{splice}
 use Rattle.number.specs.Magnitude.{largest}
-use Rattle.field_written.specs.Numeral.{Setting, Numeric, Numeral, characters, standsFor}
-use Rattle.field_written.specs.Written.{field, starred}
+use Rattle.number.specs.Rounding.{Nearest}
+use Rattle.field_written.specs.Numeral.{Setting, Numeric, F, Numeral, characters, standsFor}
+use Rattle.field_written.specs.Written.{field, starred, decimalField, putDecimal, afterDecimal, putRefusal, putStarred}
 
 -- a field has w characters
 abbrev pub FieldLength : Type 0
@@ -16,15 +20,40 @@ FieldLength = (g : Setting) (f : Numeric) (w : ℕ) (n : ℤ) → length (field 
 
 -- 'A numeric field is starred when it puts w asterisks'
 abbrev pub StarredIs : Type 0
-StarredIs = (g : Setting) (f : Numeric) (w : ℕ) (n : ℤ) → natAbs n ≤ largest → (starred g f w n ≡ true) ↔ (field g f w n ≡ replicate w 42)
+StarredIs = (g : Setting) (f : Numeric) (w : ℕ) (n : ℤ) → (starred g f w n ≡ true) ↔ (field g f w n ≡ replicate w asterisk)
 
 -- Demand 3 at one field: it is w asterisks exactly when no numeral of width w stands for the value
 -- (n for I, the rounded units for F)
 abbrev pub StarsExactlyWhen : Type 0
 StarsExactlyWhen =
-    (g : Setting) (f : Numeric) (w : ℕ) (n : ℤ) → natAbs n ≤ largest → (field g f w n ≡ replicate w 42) ↔ ((t : Numeral g f w) → standsFor t ≡ n → ⊥)
+    (g : Setting) (f : Numeric) (w : ℕ) (n : ℤ) → (field g f w n ≡ replicate w asterisk) ↔ ((t : Numeral g f w) → standsFor t ≡ n → ⊥)
 
 -- a field that is not starred is a numeral of width w that stands for the value
 abbrev pub UnstarredIsNumeral : Type 0
 UnstarredIsNumeral =
-    (g : Setting) (f : Numeric) (w : ℕ) (n : ℤ) → natAbs n ≤ largest → starred g f w n ≡ false → (t : Numeral g f w) × (characters t ≡ field g f w n) × (standsFor t ≡ n)
+    (g : Setting) (f : Numeric) (w : ℕ) (n : ℤ) → starred g f w n ≡ false → (t : Numeral g f w) × (characters t ≡ field g f w n) × (standsFor t ≡ n)
+
+-- ---- the decimal u / 10^s under Fw.d, without the closed form of rounding
+
+-- refusal 11: no number is the decimal rounded to d places within the largest magnitude; the buffer is then as it was
+abbrev pub DecimalRefusedWhen : Type 0
+DecimalRefusedWhen =
+    (g : Setting) (w d : ℕ) (u : ℤ) (s : ℕ) → (putRefusal (putDecimal g w d u s) ≡ 11) ↔ ((r : ℤ) → Nearest u s d r → natAbs r ≤ largest → ⊥)
+
+abbrev pub DecimalRefusedLeaves : Type 0
+DecimalRefusedLeaves =
+    (g : Setting) (buffer : List ℕ) (at w d : ℕ) (u : ℤ) (s : ℕ) → putRefusal (putDecimal g w d u s) ≡ 11 → afterDecimal g buffer at w d u s ≡ buffer
+
+-- demand 3 for F: where it is not refused, it is starred exactly when no numeral of width w stands for the decimal
+-- rounded to d places; the field is then w asterisks, and else a numeral that does
+abbrev pub DecimalStarsExactlyWhen : Type 0
+DecimalStarsExactlyWhen =
+    (g : Setting) (w d : ℕ) (u : ℤ) (s : ℕ) → putRefusal (putDecimal g w d u s) ≡ 0 → (putStarred (putDecimal g w d u s) ≡ 1) ↔ ((t : Numeral g (F d) w) → Nearest u s d (standsFor t) → ⊥)
+
+abbrev pub DecimalStarred : Type 0
+DecimalStarred =
+    (g : Setting) (buffer : List ℕ) (at w d : ℕ) (u : ℤ) (s : ℕ) → putStarred (putDecimal g w d u s) ≡ 1 → afterDecimal g buffer at w d u s ≡ splice buffer at (replicate w asterisk)
+
+abbrev pub DecimalShown : Type 0
+DecimalShown =
+    (g : Setting) (buffer : List ℕ) (at w d : ℕ) (u : ℤ) (s : ℕ) → putRefusal (putDecimal g w d u s) ≡ 0 → putStarred (putDecimal g w d u s) ≡ 0 → (t : Numeral g (F d) w) × (afterDecimal g buffer at w d u s ≡ splice buffer at (characters t)) × (Nearest u s d (standsFor t))

@@ -1,4 +1,4 @@
--- Document 01, 'Fields written': the numeric field as it is written, and the shown value.
+-- Document 01, 'Fields written': the numeric field.
 -- Assumes nothing.
 use mathlib.Core.Bool.{Bool, true, false, _&&_, cond}
 use mathlib.Core.List.{List, _++_}
@@ -6,6 +6,7 @@ use Prim.Native.Nat.{ℕ, _-_, _/_, _^_}
 use lib.Dec.{ltb, leb, eqb}
 use lib.ListN.{length, replicate}
 use lib.IntN.{ℤ, natAbs}
+use Rattle.buffer.specs.Characters.{blank, asterisk}
 use Rattle.buffer.specs.Splice.{splice}
 use Rattle.number.specs.Magnitude.{negative}
 use Rattle.number.specs.Digits.{digitsOf, digitCount}
@@ -14,33 +15,35 @@ use Rattle.field_written.specs.Numeral.{Numeric, I, F, places, Sign, non
 use Rattle.field_written.specs.declared.Put.{Put}
 use Rattle.field_written.specs.declared.Put.the-variants.{Shown, Starred, TooLarge}
 
--- ---- the numeral of a sign and a magnitude m, which for F counts units of 10^-d
+-- ---- the text of a sign and a magnitude m, which for F counts units of 10^-d
 
--- with k digits before the point, and no blanks
-unfoldable pub numeral : Numeric → Sign → ℕ → ℕ → List ℕ
-numeral f sign k m = layout f 0 sign (digitsOf k (m / 10 ^ places f)) (digitsOf (places f) m)
+-- how many digits stand before the point (for I: in all): 'no leading zero, except the only digit of an I and one zero
+-- before the point of an F with integer part 0'
+unfoldable pub mostDigits : Numeric → ℕ → ℕ
+mostDigits f m = digitCount (m / 10 ^ places f)
 
--- 'no leading zero, except the only digit of an I and one zero before the point of an F with integer part 0'
-unfoldable pub most : Numeric → ℕ → ℕ
-most f m = digitCount (m / 10 ^ places f)
+-- the same where that zero before the point is left out, which takes a digit after it
+unfoldable pub fewestDigits : Numeric → ℕ → ℕ
+fewestDigits f m = cond (ltb 0 (places f) && eqb (m / 10 ^ places f) 0) 0 (mostDigits f m)
 
--- that zero may go where digits follow the point
-unfoldable pub fewest : Numeric → ℕ → ℕ
-fewest f m = cond (ltb 0 (places f) && eqb (m / 10 ^ places f) 0) 0 (most f m)
+-- sign, k digits before the point, and the rest, without blanks
+unfoldable pub numeralText : Numeric → Sign → ℕ → ℕ → List ℕ
+numeralText f sign k m = layout f 0 sign (digitsOf k (m / 10 ^ places f)) (digitsOf (places f) m)
 
 -- 'right justified'
 abbrev pub justified : ℕ → List ℕ → List ℕ
-justified w t = replicate (w - length t) 32 ++ t
+justified w t = replicate (w - length t) blank ++ t
 
--- the zero stands 'where a column is free'; 'if no numeral of width w stands for the value, the field is w asterisks'
+-- with the zero 'where a column is free', else without it, else 'w asterisks': the first that has room.
+-- (The law `StarsExactlyWhen` of `Promises`: asterisks exactly 'if no numeral of width w stands for the value'.)
 unfoldable pub fieldText : Numeric → ℕ → Sign → ℕ → List ℕ
 fieldText f w sign m =
-    cond (leb (length (numeral f sign (most f m) m)) w) (justified w (numeral f sign (most f m) m))
-    (cond (leb (length (numeral f sign (fewest f m) m)) w) (justified w (numeral f sign (fewest f m) m)) (replicate w 42))
+    cond (leb (length (numeralText f sign (mostDigits f m) m)) w) (justified w (numeralText f sign (mostDigits f m) m))
+    (cond (leb (length (numeralText f sign (fewestDigits f m) m)) w) (justified w (numeralText f sign (fewestDigits f m) m)) (replicate w asterisk))
 
--- the shortest numeral is longer than w
-unfoldable pub tooNarrow : Numeric → ℕ → Sign → ℕ → Bool
-tooNarrow f w sign m = ltb w (length (numeral f sign (fewest f m) m))
+-- the columns that the shortest text takes
+unfoldable pub fewestColumns : Numeric → Sign → ℕ → ℕ
+fewestColumns f sign m = length (numeralText f sign (fewestDigits f m) m)
 
 -- ---- the field of a value: n for I, the rounded units for F
 
@@ -48,7 +51,7 @@ abbrev pub minusIf : Bool → Sign
 minusIf true = minus
 minusIf false = none
 
--- '− exactly for a value below zero after rounding, never +'
+-- 'with − exactly for a value below zero after rounding, never +'
 abbrev pub signFor : Setting → ℤ → Sign
 signFor plain n = minusIf (negative n)
 
@@ -56,28 +59,32 @@ signFor plain n = minusIf (negative n)
 unfoldable pub field : Setting → Numeric → ℕ → ℤ → List ℕ
 field g f w n = fieldText f w (signFor g n) (natAbs n)
 
--- Term 'starred': the field puts w asterisks (the law `starred-is` of `Promises`)
+-- Term 'starred': no text has room, so that the field is w asterisks (the law `StarredIs` of `Promises`)
 unfoldable pub starred : Setting → Numeric → ℕ → ℤ → Bool
-starred g f w n = tooNarrow f w (signFor g n) (natAbs n)
+starred g f w n = ltb w (fewestColumns f (signFor g n) (natAbs n))
 
--- ---- Term 'shown value'
+-- ---- the decimal u / 10^s under Fw.d
 
--- 'integer .. unchanged'
-abbrev pub shownInteger : ℤ → ℤ
-shownInteger n = n
+-- its field, 'the decimal rounded to d places for F'
+abbrev pub decimalField : Setting → ℕ → ℕ → ℤ → ℕ → List ℕ
+decimalField g w d u s = field g (F d) w (roundedUnits u s d)
 
--- 'decimal as rounded, with d places': its units
-abbrev pub shownUnits : ℤ → ℕ → ℕ → ℤ
-shownUnits u s d = roundedUnits u s d
-
--- ---- writing a decimal u / 10^s under Fw.d from place at of a buffer on
-
--- what became of the field; too large is refusal 11
+-- the answer of writing it
 unfoldable pub putDecimal : Setting → ℕ → ℕ → ℤ → ℕ → Put
 putDecimal g w d u s =
     cond (tooLarge u s d) TooLarge (cond (starred g (F d) w (roundedUnits u s d)) Starred Shown)
 
--- the buffer afterwards: a refused decimal leaves it as it was
+-- the buffer after writing it from place at on; refused, it is as it was
 unfoldable pub afterDecimal : Setting → List ℕ → ℕ → ℕ → ℕ → ℤ → ℕ → List ℕ
-afterDecimal g buffer at w d u s =
-    cond (tooLarge u s d) buffer (splice buffer at (field g (F d) w (roundedUnits u s d)))
+afterDecimal g buffer at w d u s = cond (tooLarge u s d) buffer (splice buffer at (decimalField g w d u s))
+
+-- what an answer means: the refusal's number in 'Checks by place', 0 for none, and the number of starred fields
+abbrev pub putRefusal : Put → ℕ
+putRefusal Shown = 0
+putRefusal Starred = 0
+putRefusal TooLarge = 11
+
+abbrev pub putStarred : Put → ℕ
+putStarred Shown = 0
+putStarred Starred = 1
+putStarred TooLarge = 0

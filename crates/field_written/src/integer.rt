@@ -1,7 +1,8 @@
 // The integer field.
+use crate::columns::integer_columns;
+use crate::columns::sign_width;
 use crate::parts::put_digits;
 use crate::parts::put_sign;
-use crate::parts::sign_width;
 ghost use mathlib.Core.Path.{_≡_};
 ghost use Prim.Native.Nat.{_+_, _≤_};
 ghost use lib.ListN.{length};
@@ -9,25 +10,19 @@ ghost use lib.IntN.{natAbs};
 ghost use Rattle.buffer.specs.Splice.{splice};
 ghost use Rattle.number.specs.Magnitude.{largest};
 ghost use Rattle.field_written.specs.Numeral.{I, plain};
-ghost use Rattle.field_written.specs.Written.{minusIf, tooNarrow, fieldText, starred, field};
+ghost use Rattle.field_written.specs.Written.{minusIf, fewestColumns, fieldText, starred, field};
 
-// The numeral right justified, or asterisks; whether it is asterisks.
-fn put_integer(dst: &mut [u8], at: usize, width: usize, negative: bool, m: u64) -> bool
-    requires { ⌜ (at + width ≤ length (now dst)) × (m ≤ largest) ⌝ }
-    ensures { λ r. ⌜ (r ≡ tooNarrow I width (minusIf negative) m) × (now (dst .exit) ≡ splice (now (dst .entry)) at (fieldText I width (minusIf negative) m)) ⌝ }
+// The numeral, right justified; it takes `need` columns, which are there.
+fn put_integer(dst: &mut [u8], at: usize, width: usize, need: usize, negative: bool, m: u64)
+    requires { ⌜ (at + width ≤ length (now dst)) × (need ≤ width) × (need ≡ fewestColumns I (minusIf negative) m) × (m ≤ largest) ⌝ }
+    ensures { λ r. ⌜ now (dst .exit) ≡ splice (now (dst .entry)) at (fieldText I width (minusIf negative) m) ⌝ }
 {
-    let k = number::digits::digit_count(m);
     let s = sign_width(negative);
-    let need = s + k;
-    if width < need {
-        buffer::fill(dst, at, width, b'*');
-        return true;
-    }
+    let k = need - s;
     let blanks = width - need;
     buffer::fill(dst, at, blanks, b' ');
     put_sign(dst, at + blanks, negative);
     put_digits(dst, at + blanks + s, k, m);
-    false
 }
 
 // n under Iw from place at on; whether the field is starred.
@@ -37,5 +32,11 @@ pub fn write_integer(dst: &mut [u8], at: usize, width: usize, n: i64) -> bool
 {
     let negative = number::sign::is_negative(n);
     let m = number::sign::magnitude(n);
-    put_integer(dst, at, width, negative, m)
+    let need = integer_columns(negative, m);
+    if width < need {
+        buffer::fill(dst, at, width, b'*');
+        return true;
+    }
+    put_integer(dst, at, width, need, negative, m);
+    false
 }

@@ -1,9 +1,10 @@
 // Numeric fields written: integers under Iw, decimals under Fw.d.
+mod columns;
 pub mod decimal;
 pub mod integer;
-pub mod parts;
+mod parts;
 
-// What became of a decimal's field.
+// The answer of writing a decimal.
 pub enum Put {
     Shown,
     Starred,

@@ -1,4 +1,4 @@
-// The parts of a numeral.
+// The parts of a numeral, laid into a buffer.
 use number::powers::power_of_ten;
 ghost use mathlib.Core.Path.{_≡_};
 ghost use Prim.Native.Nat.{_+_, _<_, _≤_, _^_};
@@ -7,13 +7,6 @@ ghost use Rattle.buffer.specs.Splice.{splice};
 ghost use Rattle.number.specs.Digits.{digitsOf};
 ghost use Rattle.field_written.specs.Numeral.{signBytes};
 ghost use Rattle.field_written.specs.Written.{minusIf};
-
-// The columns that the sign takes.
-pub fn sign_width(negative: bool) -> usize
-    ensures { λ r. ⌜ (r ≡ length (signBytes (minusIf negative))) × (r < 2) ⌝ }
-{
-    if negative { 1 } else { 0 }
-}
 
 // The sign, where there is one.
 pub fn put_sign(dst: &mut [u8], at: usize, negative: bool)
@@ -34,7 +27,7 @@ pub fn put_digits(dst: &mut [u8], at: usize, k: usize, m: u64)
     let mut i: usize = 0;
     while i < k {
         let p = power_of_ten(k - 1 - i);
-        dst[at + i] = 48 + (rest / p) as u8;
+        dst[at + i] = b'0' + (rest / p) as u8;
         rest = rest % p;
         i += 1;
     }

@@ -1,19 +1,19 @@
 -- Laws of digits: how many there are, each of them, and their value.
 -- Assumes nothing.
 use mathlib.Core.Path.{_≡_, refl, sym, ap, subst, _∙_}
-use mathlib.Core.Bool.{Bool, true, false, cond}
+use mathlib.Core.Bool.{Bool, true, false, _&&_, cond, false≢true}
 use mathlib.Core.List.{List, [], _∷_, _++_}
 use Prim.Native.Nat.{ℕ, zero, suc, _+_, _-_, _*_, _/_, _%_, _^_, _<_, _≤_}
-use native.Mathlib.Nat.{not-suc-le-zero, le-of-suc-le-suc, lt-of-le-of-lt, lt-of-lt-of-le, mod-one, pow-succ', zero-mul, zero-add, add-assoc, add-mul, mul-assoc, lt-irrefl, mod-eq-of-lt, mod-lt}
+use native.Mathlib.Nat.{not-suc-le-zero, le-of-suc-le-suc, lt-of-le-of-lt, lt-of-lt-of-le, mod-one, pow-suc, pow-succ', zero-mul, zero-add, add-assoc, add-mul, mul-assoc, lt-irrefl, mod-eq-of-lt, mod-lt}
 use native.Mathlib.Decide.{decLt}
 use native.Mathlib.Omega.{arith}
-use borrow.Author.Tests.{leb-true, leb-false}
+use borrow.Author.Tests.{leb-true, leb-false, le-leb}
 use lib.Arith.{digits-lt, digits-div, digits-mod, mod-mul}
 use lib.Dec.{leb}
 use lib.ListN.{length, getD, length-append}
 use lib.Pow.{pow-add}
-use Rattle.number.specs.Magnitude.{largest}
-use Rattle.number.specs.Digits.{Digits, value, digitsOf, countUpTo, digitCount}
+use Rattle.number.specs.Digits.{Digits, allDigits, value, digitsOf, countUpTo, digitCount}
+use Rattle.number.specs.Promises.{DigitCountIs, AllDigitsIs}
 use Rattle.number.proofs.PowerLaws.{ten-pos, ten-le, lt-of-ten}
 
 pub length-digits : (k m : ℕ) → length (digitsOf k m) ≡ k
@@ -35,7 +35,7 @@ count-least (suc n) m k h g = go (count-least n m k h g) (leb (10 ^ suc n) m) re
 -- one digit or more that hold m are as many as it has at least
 pub digitCount-least : (m k : ℕ) → 0 < k → m < 10 ^ k → digitCount m ≤ k
 unfolding digitCount
-digitCount-least m k h g = count-least 17 m k h g
+digitCount-least m k h g = count-least m m k h g
 
 count-holds : (n m : ℕ) → m < 10 ^ suc n → m < 10 ^ countUpTo n m
 unfolding countUpTo
@@ -46,9 +46,13 @@ count-holds (suc n) m g = go (count-holds n m) (leb (10 ^ suc n) m) refl
     go r true e = g
     go r false e = r (leb-false _ _ e)
 
-pub digitCount-holds : (m : ℕ) → m ≤ largest → m < 10 ^ digitCount m
+below-ten : (m : ℕ) → m < 10 ^ suc m
+below-ten zero = omega arith
+below-ten (suc m) = rw (pow-suc 10 (suc m)) (omega (arith, below-ten m))
+
+pub digitCount-holds : (m : ℕ) → m < 10 ^ digitCount m
 unfolding digitCount
-digitCount-holds m g = count-holds 17 m (omega arith)
+digitCount-holds m = count-holds m m (below-ten m)
 
 count-pos : (n m : ℕ) → 0 < countUpTo n m
 unfolding countUpTo
@@ -61,15 +65,41 @@ count-pos (suc n) m = go (count-pos n m) (leb (10 ^ suc n) m)
 
 pub digitCount-pos : (m : ℕ) → 0 < digitCount m
 unfolding digitCount
-digitCount-pos m = count-pos 17 m
+digitCount-pos m = count-pos m m
+
+pub digit-count-is : DigitCountIs
+digit-count-is m = (digitCount-holds m, digitCount-pos m, digitCount-least m)
+
+-- ---- the test
+
+pub all-digits : (ds : List ℕ) → Digits ds → allDigits ds ≡ true
+unfolding allDigits
+all-digits [] h = refl
+all-digits (x ∷ xs) h = simp (le-leb 48 x (h .0), le-leb x 57 (h .1), all-digits xs (h .2))
+
+digits-all : (ds : List ℕ) → allDigits ds ≡ true → Digits ds
+unfolding allDigits
+digits-all [] e = tt
+digits-all (x ∷ xs) e = go (digits-all xs) (leb 48 x) (leb x 57) refl refl e
+  where
+    never : {A : Type 0} → false ≡ true → A
+    never f = absurd (false≢true f)
+
+    go : (allDigits xs ≡ true → Digits xs) → (a b : Bool) → leb 48 x ≡ a → leb x 57 ≡ b → ((a && b) && allDigits xs) ≡ true → Digits (x ∷ xs)
+    go r true true p q f = (leb-true 48 x p, leb-true x 57 q, r f)
+    go r true false p q f = never f
+    go r false b p q f = never f
+
+pub all-digits-is : AllDigitsIs
+all-digits-is ds = (digits-all ds, all-digits ds)
 
 -- ---- the count found upwards: n powers from 10^0 on are passed
 
-pub count-more : (m n : ℕ) → m ≤ largest → 10 ^ n ≤ m → n + 1 ≤ digitCount m
-count-more m n h g =
+pub count-more : (m n : ℕ) → 10 ^ n ≤ m → n + 1 ≤ digitCount m
+count-more m n g =
     elim (decLt n (digitCount m)) [
       | yes f ↦ omega arith
-      | no f ↦ absurd (lt-irrefl _ (lt-of-lt-of-le (digitCount-holds m h) (omega (arith, ten-le {i = digitCount m} {j = n} (omega arith)))))
+      | no f ↦ absurd (lt-irrefl _ (lt-of-lt-of-le (digitCount-holds m) (omega (arith, ten-le {i = digitCount m} {j = n} (omega arith)))))
     ]
 
 pub count-found : (m n : ℕ) → 0 < n → n ≤ digitCount m → m < 10 ^ n → n ≡ digitCount m

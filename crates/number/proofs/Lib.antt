@@ -1,5 +1,5 @@
 pub mod Table
 pub mod PowerLaws
+pub mod SignLaws
 pub mod RoundingLaws
 pub mod DigitLaws
-pub mod SignLaws

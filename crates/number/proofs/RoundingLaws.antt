@@ -11,14 +11,15 @@ use lib.Dec.{ltb}
 use lib.IntN.{ℤ, pos, negsuc, negℤ, natAbs, _*ℤ_, _-ℤ_, negℤ-negℤ, negℤ-+ℤ}
 use borrow.Author.Tests.{lt-ltb, le-ltb, ltb-true, ltb-false}
 use Rattle.number.specs.Magnitude.{largest}
-use Rattle.number.specs.Rounding.{nearest, rounded, roundedUnits, distance, Nearest}
+use Rattle.number.specs.Rounding.{Nearest, distance, roundedMagnitude, roundedUnits, roundingAnswer}
 use Rattle.number.specs.declared.Rounded.the-variants.{Units, TooLarge}
+use Rattle.number.specs.Promises.{RoundedIs, RoundedExact}
 use Rattle.number.proofs.PowerLaws.{ten-pos, ten-split, ten-half}
 use Rattle.number.proofs.SignLaws.{natAbs-neg}
 
 -- places added: the units are multiplied. (The power is a variable with its equation, as the code has it.)
-pub nearest-up : (u s d : ℕ) {p : ℕ} → s ≤ d → p ≡ 10 ^ (d - s) → nearest u s d ≡ u * p
-unfolding nearest
+pub nearest-up : (u s d : ℕ) {p : ℕ} → s ≤ d → p ≡ 10 ^ (d - s) → roundedMagnitude u s d ≡ u * p
+unfolding roundedMagnitude
 nearest-up u s d {p} h e =
     let q : ℕ = 10 ^ s in
     let f : 10 ^ d ≡ p * q = ten-split s d h ∙ rw e in
@@ -26,8 +27,8 @@ nearest-up u s d {p} h e =
     rw (f, g) (digits-div (u * p) (omega (arith, ten-pos s)))
 
 -- places dropped: half a unit of the result is added, and the digits are cut off
-pub nearest-down : (u s d : ℕ) {p : ℕ} → d < s → p ≡ 10 ^ (s - d) → nearest u s d ≡ (u + p / 2) / p
-unfolding nearest
+pub nearest-down : (u s d : ℕ) {p : ℕ} → d < s → p ≡ 10 ^ (s - d) → roundedMagnitude u s d ≡ (u + p / 2) / p
+unfolding roundedMagnitude
 nearest-down u s d {p} h e =
     let q : ℕ = 10 ^ d in
     let f : 10 ^ s ≡ p * q = ten-split d s (omega arith) ∙ rw e in
@@ -39,12 +40,12 @@ nearest-down u s d {p} h e =
 
 -- ---- the answer
 
-pub answer-units : (u s d : ℕ) {v : ℕ} → nearest u s d ≡ v → v ≤ largest → Units v ≡ rounded u s d
-unfolding rounded
+pub answer-units : (u s d : ℕ) {v : ℕ} → roundedMagnitude u s d ≡ v → v ≤ largest → Units v ≡ roundingAnswer u s d
+unfolding roundingAnswer
 answer-units u s d e h = simp (e, le-ltb _ _ h)
 
-pub answer-large : (u s d : ℕ) {v : ℕ} → nearest u s d ≡ v → largest < v → TooLarge ≡ rounded u s d
-unfolding rounded
+pub answer-large : (u s d : ℕ) {v : ℕ} → roundedMagnitude u s d ≡ v → largest < v → TooLarge ≡ roundingAnswer u s d
+unfolding roundingAnswer
 answer-large u s d e h = simp (e, lt-ltb _ _ h)
 
 -- the test u ≤ (10^18 - 1) / p says whether u * p is small enough
@@ -60,40 +61,40 @@ down-small {u} {p} h g =
     omega arith
 
 -- what the answer says
-pub units-of : (u s d : ℕ) {v : ℕ} → rounded u s d ≡ Units v → (nearest u s d ≡ v) × (v ≤ largest)
-unfolding rounded
-units-of u s d {v} q = go (ltb largest (nearest u s d)) refl q
+pub units-of : (u s d : ℕ) {v : ℕ} → roundingAnswer u s d ≡ Units v → (roundedMagnitude u s d ≡ v) × (v ≤ largest)
+unfolding roundingAnswer
+units-of u s d {v} q = go (ltb largest (roundedMagnitude u s d)) refl q
   where
-    go : (b : Bool) → ltb largest (nearest u s d) ≡ b → cond b TooLarge (Units (nearest u s d)) ≡ Units v → (nearest u s d ≡ v) × (v ≤ largest)
+    go : (b : Bool) → ltb largest (roundedMagnitude u s d) ≡ b → cond b TooLarge (Units (roundedMagnitude u s d)) ≡ Units v → (roundedMagnitude u s d ≡ v) × (v ≤ largest)
     go true e r =
         let z : _≡_ {A = ℕ} 0 1 = cc in
         absurd (omega arith)
     go false e r =
-        let z : nearest u s d ≡ v = cc in
-        (z, omega (arith, ltb-false largest (nearest u s d) e))
+        let z : roundedMagnitude u s d ≡ v = cc in
+        (z, omega (arith, ltb-false largest (roundedMagnitude u s d) e))
 
-pub large-of : (u s d : ℕ) → rounded u s d ≡ TooLarge → largest < nearest u s d
-unfolding rounded
-large-of u s d q = go (ltb largest (nearest u s d)) refl q
+pub large-of : (u s d : ℕ) → roundingAnswer u s d ≡ TooLarge → largest < roundedMagnitude u s d
+unfolding roundingAnswer
+large-of u s d q = go (ltb largest (roundedMagnitude u s d)) refl q
   where
-    go : (b : Bool) → ltb largest (nearest u s d) ≡ b → cond b TooLarge (Units (nearest u s d)) ≡ TooLarge → largest < nearest u s d
+    go : (b : Bool) → ltb largest (roundedMagnitude u s d) ≡ b → cond b TooLarge (Units (roundedMagnitude u s d)) ≡ TooLarge → largest < roundedMagnitude u s d
     go true e r = ltb-true _ _ e
     go false e r =
         let z : _≡_ {A = ℕ} 0 1 = cc in
         absurd (omega arith)
 
--- ---- what `nearest` means
+-- ---- what it means
 
 -- from half below, which it may not reach, to half above
-nearest-low : (u s d : ℕ) → 2 * (nearest u s d * 10 ^ s) ≤ 2 * (u * 10 ^ d) + 10 ^ s
-unfolding nearest
+nearest-low : (u s d : ℕ) → 2 * (roundedMagnitude u s d * 10 ^ s) ≤ 2 * (u * 10 ^ d) + 10 ^ s
+unfolding roundedMagnitude
 nearest-low u s d =
     let n : ℕ = 2 * (u * 10 ^ d) + 10 ^ s in
     let e : 2 * (n / (2 * 10 ^ s) * 10 ^ s) ≡ n / (2 * 10 ^ s) * (2 * 10 ^ s) = simp (mul-left-comm 2) in
     rw e (div-mul-le-self n (2 * 10 ^ s))
 
-nearest-high : (u s d : ℕ) → 2 * (u * 10 ^ d) < 2 * (nearest u s d * 10 ^ s) + 10 ^ s
-unfolding nearest
+nearest-high : (u s d : ℕ) → 2 * (u * 10 ^ d) < 2 * (roundedMagnitude u s d * 10 ^ s) + 10 ^ s
+unfolding roundedMagnitude
 nearest-high u s d =
     let n : ℕ = 2 * (u * 10 ^ d) + 10 ^ s in
     let e : 2 * (n / (2 * 10 ^ s) * 10 ^ s) ≡ n / (2 * 10 ^ s) * (2 * 10 ^ s) = simp (mul-left-comm 2) in
@@ -109,9 +110,9 @@ apart a b = (a - b) + (b - a)
 
 -- on magnitudes: no multiple is nearer, and one as near is no larger
 module _ (u s d : ℕ) where
-  no-nearer-up : (k : ℕ) → apart (nearest u s d * 10 ^ s) (u * 10 ^ d) ≤ apart (k * 10 ^ s) (u * 10 ^ d)
+  no-nearer-up : (k : ℕ) → apart (roundedMagnitude u s d * 10 ^ s) (u * 10 ^ d) ≤ apart (k * 10 ^ s) (u * 10 ^ d)
   no-nearer-up k =
-      let r : ℕ = nearest u s d in
+      let r : ℕ = roundedMagnitude u s d in
       let l = nearest-low u s d in
       let h = nearest-high u s d in
       elim (decLt r k) [
@@ -125,9 +126,9 @@ module _ (u s d : ℕ) where
             ]
       ]
 
-  half-up : (k : ℕ) → apart (k * 10 ^ s) (u * 10 ^ d) ≡ apart (nearest u s d * 10 ^ s) (u * 10 ^ d) → k ≤ nearest u s d
+  half-up : (k : ℕ) → apart (k * 10 ^ s) (u * 10 ^ d) ≡ apart (roundedMagnitude u s d * 10 ^ s) (u * 10 ^ d) → k ≤ roundedMagnitude u s d
   half-up k e =
-      let r : ℕ = nearest u s d in
+      let r : ℕ = roundedMagnitude u s d in
       let l = nearest-low u s d in
       let h = nearest-high u s d in
       elim (decLt r k) [ yes g ↦ absurd (omega (arith, above (10 ^ s) g)) | no g ↦ omega arith ]
@@ -167,14 +168,14 @@ nearest-neg {u} {s} {d} {r} n =
       half-away = λ k e. rw (natAbs-neg r, ← natAbs-neg k) (n .half-away (negℤ k) (sym (back k) ∙ e ∙ distance-neg u s d r));
     }
 
--- ---- the rounded units are nearest, and no other number is
+-- ---- the roundingAnswer units are roundedMagnitude, and no other number is
 
 module _ (m s d : ℕ) where
-  right-pos : Nearest (pos m) s d (pos (nearest m s d))
+  right-pos : Nearest (pos m) s d (pos (roundedMagnitude m s d))
   right-pos = record { no-nearer = near; half-away = half }
     where
       q : ℕ
-      q = nearest m s d
+      q = roundedMagnitude m s d
 
       -- a multiple below zero is farther than 0 is
       zero-near : distance (pos m) s d (pos q) ≤ m * 10 ^ d
@@ -190,21 +191,29 @@ module _ (m s d : ℕ) where
       half (negsuc k) e =
           absurd (omega (arith, zero-near, apart-neg (suc k * 10 ^ s) (m * 10 ^ d), ten-pos s))
 
-  only-pos : (r : ℤ) → Nearest (pos m) s d r → r ≡ pos (nearest m s d)
+  only-pos : (r : ℤ) → Nearest (pos m) s d r → r ≡ pos (roundedMagnitude m s d)
   only-pos (pos j) n =
-      let q : ℕ = nearest m s d in
+      let q : ℕ = roundedMagnitude m s d in
       let e : distance (pos m) s d (pos j) ≡ distance (pos m) s d (pos q) = le-antisymm (n .no-nearer (pos q)) (right-pos .no-nearer (pos j)) in
       ap pos (le-antisymm (right-pos .half-away (pos j) e) (n .half-away (pos q) (sym e)))
   only-pos (negsuc j) n =
       absurd (omega (arith, n .no-nearer (pos 0), apart-neg (suc j * 10 ^ s) (m * 10 ^ d), apart-pos (0 * 10 ^ s) (m * 10 ^ d), ten-pos s))
 
-pub rounded-right : (u : ℤ) (s d : ℕ) → Nearest u s d (roundedUnits u s d)
+rounded-right : (u : ℤ) (s d : ℕ) → Nearest u s d (roundedUnits u s d)
 unfolding roundedUnits
 rounded-right (pos m) s d = right-pos m s d
 rounded-right (negsuc m) s d = nearest-neg (right-pos (suc m) s d)
 
-pub rounded-only : (u : ℤ) {s d : ℕ} {r : ℤ} → Nearest u s d r → r ≡ roundedUnits u s d
+rounded-only : (u : ℤ) {s d : ℕ} {r : ℤ} → Nearest u s d r → r ≡ roundedUnits u s d
 unfolding roundedUnits
 rounded-only (pos m) {s} {d} {r} n = only-pos m s d r n
 rounded-only (negsuc m) {s} {d} {r} n =
     sym (negℤ-negℤ r) ∙ ap negℤ (only-pos (suc m) s d (negℤ r) (nearest-neg n))
+
+pub rounded-is : RoundedIs
+rounded-is u s d r = (rounded-only u, λ e. subst (Nearest u s d) (sym e) (rounded-right u s d))
+
+pub rounded-exact : RoundedExact
+unfolding roundedUnits
+rounded-exact (pos m) s d h = rw (nearest-up m s d h refl)
+rounded-exact (negsuc m) s d h = rw (nearest-up (suc m) s d h refl)

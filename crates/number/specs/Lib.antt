@@ -1,3 +1,4 @@
 pub mod Magnitude
 pub mod Rounding
 pub mod Digits
+pub mod Promises

@@ -1,4 +1,4 @@
--- Document 01, 'The list': integers, and the units of decimals, by sign and magnitude.
+-- Document 01, 'The list': the limits of integers and decimals; numbers by sign and magnitude.
 -- Assumes nothing.
 use mathlib.Core.Bool.{Bool, not, cond}
 use Prim.Native.Nat.{ℕ, _-_, _^_}
@@ -8,6 +8,10 @@ use lib.Signed.{nonNeg}
 -- the largest magnitude of an integer and of a decimal's units
 abbrev pub largest : ℕ
 largest = 10 ^ 18 - 1
+
+-- the most places of a decimal
+abbrev pub mostPlaces : ℕ
+mostPlaces = 9
 
 -- below zero
 abbrev pub negative : ℤ → Bool

@@ -3,14 +3,14 @@ use crate::LARGEST;
 use crate::Rounded;
 use crate::powers::power_of_ten;
 ghost use mathlib.Core.Path.{_≡_};
-ghost use Prim.Native.Nat.{_<_, _≤_};
-ghost use Rattle.number.specs.Magnitude.{largest};
-ghost use Rattle.number.specs.Rounding.{rounded};
+ghost use Prim.Native.Nat.{_≤_};
+ghost use Rattle.number.specs.Magnitude.{largest, mostPlaces};
+ghost use Rattle.number.specs.Rounding.{roundingAnswer};
 
 // units / 10^places to `wanted` places, halves away from zero.
 pub fn round(units: u64, places: usize, wanted: usize) -> Rounded
-    requires { ⌜ (units ≤ largest) × (places < 10) × (wanted < 10) ⌝ }
-    ensures { λ r. ⌜ r ≡ rounded units places wanted ⌝ }
+    requires { ⌜ (units ≤ largest) × (places ≤ mostPlaces) × (wanted ≤ mostPlaces) ⌝ }
+    ensures { λ r. ⌜ r ≡ roundingAnswer units places wanted ⌝ }
 {
     if places <= wanted {
         let p = power_of_ten(wanted - places);

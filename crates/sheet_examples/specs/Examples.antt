@@ -7,13 +7,15 @@ use Prim.Native.Nat.{ℕ}
 use Prim.Native.Char.{code}
 use Prim.Native.String.{String}
 use Prim.Native.String as text
+use lib.Dec.{eqb}
+use lib.ListN.{length, replicate}
 use lib.IntN.{ℤ, pos, negℤ}
-use Rattle.number.specs.Rounding.{roundedUnits, tooLarge}
+use Rattle.buffer.specs.Characters.{blank}
 use Rattle.field_written.specs.Numeral.{I, F, plain}
-use Rattle.field_written.specs.Written.{field}
+use Rattle.field_written.specs.Written.{field, afterDecimal}
 use Rattle.field_read.specs.Read.{readField}
 use Rattle.field_read.specs.declared.FieldRead.{FieldRead}
-use Rattle.field_read.specs.declared.FieldRead.the-variants.{Number}
+use Rattle.field_read.specs.declared.FieldRead.the-variants.{Number, Refused}
 
 -- the bytes of a text
 unfoldable pub bytes : String → List ℕ
@@ -25,26 +27,24 @@ pub data Example : Type 0 where
   integer : (w : ℕ) (n : ℤ) → String → Example
   -- Fw.d of u/s gives the text
   decimal : (w d : ℕ) (u : ℤ) (s : ℕ) → String → Example
-  -- the text read under Fw.d gives u/s
-  read : (d : ℕ) → String → (u : ℤ) (s : ℕ) → Example
+  -- the text, of w bytes, read under Fw.d gives u/s
+  read : (w d : ℕ) → String → (u : ℤ) (s : ℕ) → Example
 
--- a field written, a refusal of the value, or a field read
 pub data Answer : Type 0 where
-  written : List ℕ → Answer
-  refused : Answer
-  taken : FieldRead → Answer
+  writes : List ℕ → Answer
+  reads : FieldRead → Answer
 
--- by the definitions
+-- by the definitions: the field, a decimal's in a buffer of w blanks; the field read
 unfoldable pub computed : Example → Answer
-computed (integer w n t) = written (field plain I w n)
-computed (decimal w d u s t) = cond (tooLarge u s d) refused (written (field plain (F d) w (roundedUnits u s d)))
-computed (read d t u s) = taken (readField (F d) (bytes t))
+computed (integer w n t) = writes (field plain I w n)
+computed (decimal w d u s t) = writes (afterDecimal plain (replicate w blank) 0 w d u s)
+computed (read w d t u s) = reads (cond (eqb (length (bytes t)) w) (readField (F d) (bytes t)) Refused)
 
 -- by the paper
 unfoldable pub stated : Example → Answer
-stated (integer w n t) = written (bytes t)
-stated (decimal w d u s t) = written (bytes t)
-stated (read d t u s) = taken (Number u s)
+stated (integer w n t) = writes (bytes t)
+stated (decimal w d u s t) = writes (bytes t)
+stated (read w d t u s) = reads (Number u s)
 
 unfoldable pub examples : List Example
 examples =
@@ -60,9 +60,9 @@ examples =
     ∷ decimal 2 0 (pos 4) 1 "0."
     ∷ decimal 2 0 (pos 5) 1 "1."
     ∷ decimal 1 0 (pos 0) 0 "*"
-    ∷ read 2 "1234" (pos 1234) 2
-    ∷ read 2 "12.3" (pos 123) 1
-    ∷ read 2 "    " (pos 0) 2
+    ∷ read 4 2 "1234" (pos 1234) 2
+    ∷ read 4 2 "12.3" (pos 123) 1
+    ∷ read 4 2 "    " (pos 0) 2
     ∷ []
 
 -- every marked example is true of the definitions

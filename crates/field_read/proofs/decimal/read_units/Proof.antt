@@ -1,23 +1,34 @@
-use mathlib.Core.Path.{_≡_, sym, subst, _∙_}
+use mathlib.Core.Path.{_≡_, subst, _∙_}
+use Prim.Native.Nat.{_+_}
 use native.Mathlib.Omega.{arith}
 use denote.Ref.{now}
-use Rattle.field_read.specs.Steps.{Ran, RanOver, RunIs}
-use Rattle.field_read.proofs.Cases.{units-ended, units-other, units-pointed, units-over}
+use Rattle.number.specs.Digits.{value}
+use Rattle.field_read.specs.Steps.{Ran, RunTooLarge, RunIs}
+use Rattle.field_read.proofs.Cases.{units-ended, units-other, units-pointed, units-over, fraction-ended, fraction-long, fraction-stopped, fraction-over}
 use borrow.Author.Needs.{needs}
 use Rattle.field_read.proofs.decimal.read_units.Statement.{statement}
 use Rattle.field_read.proofs.decimal.read_units.Tie as tie
 use Rattle.field_read.proofs.decimal.read_units.Reads as reads
 use Rattle.field_read.proofs.decimal.read_units.Lts as lts
-use Rattle.field_read.proofs.decimal.read_fraction.Reads as read-fraction-reads
 use Rattle.field_read.proofs.digits.number_of.Reads as number-of-reads
 use Rattle.field_read.proofs.digits.read_run.Reads as read-run-reads
 
--- the run that was found
+-- the run before the point, and its number
 found : (c : tie.After-known-told) → Ran (now (c .before .before .before .before .before .args .part)) (c .before .before .before .before .before .args .from) 0 (c .before .value .given .0 .0) (c .before .value .given .0 .1 .0) (c .before .value .given .0 .1 .1 .0)
 found c = subst (RunIs _ _ _) (c .before .value .given .1) (c .before .before .before .read-run .ensures)
 
-over : (c : tie.After-enum-told) → RanOver (now (c .before .before .before .before .args .part)) (c .before .before .before .before .args .from) 0
-over c = subst (RunIs _ _ _) (c .enum-told .given .1) (c .before .before .read-run .ensures)
+whole : (c : tie.After-known-told) → c .before .value .given .0 .0 ≡ value (found c .digits)
+whole c = found c .is ∙ omega arith
+
+whole-large : (c : tie.After-enum-told2) → RunTooLarge (now (c .before .before .before .before .args .part)) (c .before .before .before .before .args .from) 0
+whole-large c = subst (RunIs _ _ _) (c .enum-told2 .given .1) (c .before .before .read-run .ensures)
+
+-- the run after it
+fraction : (c : tie.After-known-told2) → Ran (now (c .before .before .before .before .before .before .before .before .before .before .before .before .args .part)) (c .before .before .before .before .before .before .before .before .value .given .0 .1 .1 .0 + 1) (c .before .before .before .before .before .before .before .before .value .given .0 .0) (c .before .units .given .0 .0) (c .before .units .given .0 .1 .0) (c .before .units .given .0 .1 .1 .0)
+fraction c = subst (RunIs _ _ _) (c .before .units .given .1) (c .before .before .before .read-run2 .ensures)
+
+fraction-large : (c : tie.After-enum-told) → RunTooLarge (now (c .before .before .before .before .before .before .before .before .before .before .before .args .part)) (c .before .before .before .before .before .before .before .value .given .0 .1 .1 .0 + 1) (c .before .before .before .before .before .before .before .value .given .0 .0)
+fraction-large c = subst (RunIs _ _ _) (c .enum-told .given .1) (c .before .before .read-run2 .ensures)
 
 read-run-requires : tie.Need-read-run-requires
 read-run-requires c κs = search needs
@@ -37,26 +48,64 @@ shared-slice-read-if2 c = search needs
 returns-2 : tie.Need-returns-2
 returns-2 c = units-other (c .before .before .before .before .before .before .before .before .args .below) (c .before .before .before .before .before .before .before .before .args .d) (found (c .before .before .before)) (c .before .before .if1 .left) (c .if2 .taken)
 
-add-read-fraction : tie.Need-add-read-fraction
-add-read-fraction c = search needs
+add-read-run : tie.Need-add-read-run
+add-read-run c = search needs
 
-read-fraction-requires : tie.Need-read-fraction-requires
-read-fraction-requires c κs =
-    let r = found (c .before .before .before) in
-    (omega arith, r .low, omega (arith, r .fewer))
+read-run-requires-2 : tie.Need-read-run-requires-2
+read-run-requires-2 c κs = (omega arith, found (c .before .before .before) .low)
+
+enum-known-units : tie.Need-enum-known-units
+enum-known-units c = search needs
+
+returns-3 : tie.Need-returns-3
+returns-3 c =
+    let t = c .before in
+    let i = t .before .before .before .before in
+    let k = i .before .before .before in
+    fraction-stopped (c .before .before .before .before .before .before .before .before .before .before .before .before .before .args .below) _ (found k .all) (whole k) (fraction t) (c .if3 .taken)
+    ∙ units-pointed (c .before .before .before .before .before .before .before .before .before .before .before .before .before .args .below) (c .before .before .before .before .before .before .before .before .before .before .before .before .before .args .d) (found k) (i .before .before .if1 .left) (i .if2 .left)
+
+returns-4 : tie.Need-returns-4
+returns-4 c =
+    let t = c .before .before in
+    let i = t .before .before .before .before in
+    let k = i .before .before .before in
+    fraction-long (c .before .before .before .before .before .before .before .before .before .before .before .before .before .before .args .below) _ (found k .all) (whole k) (fraction t) (c .before .if3 .left) (c .if4 .taken)
+    ∙ units-pointed (c .before .before .before .before .before .before .before .before .before .before .before .before .before .before .args .below) (c .before .before .before .before .before .before .before .before .before .before .before .before .before .before .args .d) (found k) (i .before .before .if1 .left) (i .if2 .left)
+
+add-number-of : tie.Need-add-number-of
+add-number-of c =
+    let t = c .before .before in
+    let k = t .before .before .before .before .before .before .before in
+    omega (arith, found k .fewer, found k .past)
+
+number-of-requires-2 : tie.Need-number-of-requires-2
+number-of-requires-2 c κs = fraction (c .before .before) .low
 
 enum-told : tie.Need-enum-told
 enum-told c = search needs
 
-returns-3 : tie.Need-returns-3
-returns-3 c =
-    let i = c .before .before .before in
-    let r = found (i .before) in
-    c .read-fraction .ensures (r .digits) (r .all) (r .is ∙ omega arith) (r .many)
-    ∙ units-pointed (c .before .before .before .before .before .before .before .before .before .args .below) (c .before .before .before .before .before .before .before .before .before .args .d) r (i .if1 .left) (c .before .if2 .left)
+enum-told-2 : tie.Need-enum-told-2
+enum-told-2 c = search needs
 
-returns-4 : tie.Need-returns-4
-returns-4 c = units-over (c .before .before .before .before .args .below) (c .before .before .before .before .args .d) (over c)
+returns-5 : tie.Need-returns-5
+returns-5 c =
+    let t = c .before .before .before in
+    let i = t .before .before .before .before in
+    let k = i .before .before .before in
+    c .number-of2 .ensures
+    ∙ fraction-ended (c .before .before .before .before .before .before .before .before .before .before .before .before .before .before .before .args .below) _ (found k .all) (whole k) (found k .many) (fraction t) (c .before .before .if3 .left) (c .before .if4 .left)
+    ∙ units-pointed (c .before .before .before .before .before .before .before .before .before .before .before .before .before .before .before .args .below) (c .before .before .before .before .before .before .before .before .before .before .before .before .before .before .before .args .d) (found k) (i .before .before .if1 .left) (i .if2 .left)
+
+returns-6 : tie.Need-returns-6
+returns-6 c =
+    let i = c .before .before .before in
+    let k = i .before .before .before in
+    fraction-over (c .before .before .before .before .before .before .before .before .before .before .before .args .below) _ (found k .all) (whole k) (fraction-large c)
+    ∙ units-pointed (c .before .before .before .before .before .before .before .before .before .before .before .args .below) (c .before .before .before .before .before .before .before .before .before .before .before .args .d) (found k) (i .before .before .if1 .left) (i .if2 .left)
+
+returns-7 : tie.Need-returns-7
+returns-7 c = units-over (c .before .before .before .before .args .below) (c .before .before .before .before .args .d) (whole-large c)
 
 pub read-units-spec : {M : Type 1} → statement M
 read-units-spec =
@@ -68,8 +117,15 @@ read-units-spec =
     returns
     shared-slice-read-if2
     returns-2
-    add-read-fraction
-    read-fraction-requires
-    enum-told
+    add-read-run
+    read-run-requires-2
+    enum-known-units
     returns-3
-    returns-4)
+    returns-4
+    add-number-of
+    number-of-requires-2
+    enum-told
+    enum-told-2
+    returns-5
+    returns-6
+    returns-7)

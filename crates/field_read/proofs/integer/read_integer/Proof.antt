@@ -2,7 +2,7 @@ use mathlib.Core.Path.{_≡_, sym, subst, _∙_}
 use denote.Ref.{now}
 use Rattle.field_written.specs.Numeral.{I}
 use Rattle.field_read.specs.Steps.{FrontIs}
-use Rattle.field_read.proofs.Cases.{read-nothing}
+use Rattle.field_read.proofs.Cases.{read-nothing, signed-reads}
 use borrow.Author.Needs.{needs}
 use Rattle.field_read.proofs.integer.read_integer.Statement.{statement}
 use Rattle.field_read.proofs.integer.read_integer.Tie as tie
@@ -21,7 +21,7 @@ enum-known-below : tie.Need-enum-known-below
 enum-known-below c = search needs
 
 read-whole-requires : tie.Need-read-whole-requires
-read-whole-requires c κs = subst (FrontIs _) (c .before .below .given .1) (c .before .before .before .read-front .ensures) .0
+read-whole-requires c κs = subst (FrontIs _) (c .before .below .given .1) (c .before .before .before .read-front .ensures) .past
 
 returns : tie.Need-returns
 returns c = read-nothing I _ (subst (FrontIs _) (c .enum-told .given .1) (c .before .before .read-front .ensures))
@@ -29,7 +29,7 @@ returns c = read-nothing I _ (subst (FrontIs _) (c .enum-told .given .1) (c .bef
 returns-2 : tie.Need-returns-2
 returns-2 c =
     let b = c .before .before in
-    c .read-whole .ensures ∙ sym (subst (FrontIs _) (b .below .given .1) (b .before .before .read-front .ensures) .1 _)
+    c .read-whole .ensures ∙ sym (signed-reads (subst (FrontIs _) (b .below .given .1) (b .before .before .read-front .ensures)) I)
 
 pub read-integer-spec : {M : Type 1} → statement M
 read-integer-spec =

@@ -1,6 +1,6 @@
 use mathlib.Core.Path.{_≡_, sym, subst, _∙_}
 use denote.Ref.{now}
-use Rattle.field_read.specs.Steps.{Ran, RanOver, RunIs}
+use Rattle.field_read.specs.Steps.{Ran, RunTooLarge, RunIs}
 use Rattle.field_read.proofs.Cases.{whole-ended, whole-stopped, whole-over}
 use borrow.Author.Needs.{needs}
 use Rattle.field_read.proofs.integer.read_whole.Statement.{statement}
@@ -14,7 +14,7 @@ use Rattle.field_read.proofs.digits.read_run.Reads as read-run-reads
 found : (c : tie.After-known-told) → Ran (now (c .before .before .before .before .before .args .part)) (c .before .before .before .before .before .args .from) 0 (c .before .value .given .0 .0) (c .before .value .given .0 .1 .0) (c .before .value .given .0 .1 .1 .0)
 found c = subst (RunIs _ _ _) (c .before .value .given .1) (c .before .before .before .read-run .ensures)
 
-over : (c : tie.After-enum-told) → RanOver (now (c .before .before .before .before .args .part)) (c .before .before .before .before .args .from) 0
+over : (c : tie.After-enum-told) → RunTooLarge (now (c .before .before .before .before .args .part)) (c .before .before .before .before .args .from) 0
 over c = subst (RunIs _ _ _) (c .enum-told .given .1) (c .before .before .read-run .ensures)
 
 read-run-requires : tie.Need-read-run-requires

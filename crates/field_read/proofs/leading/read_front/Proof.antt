@@ -22,7 +22,7 @@ add-t8 c = search needs
 returns-2 : tie.Need-returns-2
 returns-2 c =
     let i = c .before .before in
-    (omega arith, front-plus (i .before .skip-blanks .ensures) (i .if1 .left) (c .if2 .taken))
+    front-plus (i .before .skip-blanks .ensures) (i .if1 .left) (c .if2 .taken)
 
 add-t9 : tie.Need-add-t9
 add-t9 c = search needs
@@ -30,12 +30,12 @@ add-t9 c = search needs
 returns-3 : tie.Need-returns-3
 returns-3 c =
     let i = c .before .before .before in
-    (omega arith, front-minus (i .before .skip-blanks .ensures) (i .if1 .left) (c .if3 .taken))
+    front-minus (i .before .skip-blanks .ensures) (i .if1 .left) (c .if3 .taken)
 
 returns-4 : tie.Need-returns-4
 returns-4 c =
     let i = c .before .before .before in
-    (omega arith, front-none (i .before .skip-blanks .ensures) (i .if1 .left) (c .before .if2 .left) (c .if3 .left))
+    front-none (i .before .skip-blanks .ensures) (i .if1 .left) (c .before .if2 .left) (c .if3 .left)
 
 pub read-front-spec : {M : Type 1} → statement M
 read-front-spec =

@@ -7,9 +7,9 @@ use Rattle.field_written.proofs.decimal.put_numeral.Tie as tie
 use Rattle.field_written.proofs.decimal.put_numeral.Reads as reads
 use Rattle.field_written.proofs.decimal.put_numeral.Lts as lts
 use Rattle.buffer.proofs.fill.Reads as fill-reads
+use Rattle.field_written.proofs.columns.sign_width.Reads as sign-width-reads
 use Rattle.field_written.proofs.parts.put_digits.Reads as put-digits-reads
 use Rattle.field_written.proofs.parts.put_sign.Reads as put-sign-reads
-use Rattle.field_written.proofs.parts.sign_width.Reads as sign-width-reads
 
 sign-width-requires : tie.Need-sign-width-requires
 sign-width-requires c κs = search needs

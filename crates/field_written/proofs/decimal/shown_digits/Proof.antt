@@ -1,14 +1,17 @@
-use borrow.Author.Tests.{le-leb, lt-leb}
+use borrow.Author.Tests.{lt-ltb, le-ltb}
 use Rattle.field_written.proofs.decimal.shown_digits.Statement.{statement}
 use Rattle.field_written.proofs.decimal.shown_digits.Tie as tie
 use Rattle.field_written.proofs.decimal.shown_digits.Reads as reads
 use Rattle.field_written.proofs.decimal.shown_digits.Lts as lts
 
 returns : tie.Need-returns
-returns c = simp (le-leb _ _ (c .if1 .taken))
+returns c = simp (lt-ltb _ _ (c .if1 .taken))
 
 returns-2 : tie.Need-returns-2
-returns-2 c = simp (lt-leb _ _ (c .if1 .left))
+returns-2 c = simp (le-ltb _ _ (c .before .if1 .left), lt-ltb _ _ (c .if2 .taken))
+
+returns-3 : tie.Need-returns-3
+returns-3 c = simp (le-ltb _ _ (c .before .if1 .left), le-ltb _ _ (c .if2 .left))
 
 pub shown-digits-spec : {M : Type 1} → statement M
-shown-digits-spec = tie.close (tie.spec returns returns-2)
+shown-digits-spec = tie.close (tie.spec returns returns-2 returns-3)

@@ -1,15 +1,17 @@
 use mathlib.Core.Path.{_≡_, sym, _∙_}
+use native.Mathlib.Omega.{arith}
 use lib.IntN.{natAbs}
 use mir.Facts.{toZ-ofZ}
 use Rattle.number.specs.Magnitude.{negative}
-use native.Mathlib.Omega.{arith}
 use Rattle.number.proofs.RoundingLaws.{units-of}
-use Rattle.field_written.proofs.Answer.{decimal-written, decimal-large}
+use Rattle.field_written.proofs.Answer.{decimal-starred, decimal-shown, decimal-large}
 use borrow.Author.Needs.{needs}
 use Rattle.field_written.proofs.decimal.write_decimal.Statement.{statement}
 use Rattle.field_written.proofs.decimal.write_decimal.Tie as tie
 use Rattle.field_written.proofs.decimal.write_decimal.Reads as reads
 use Rattle.field_written.proofs.decimal.write_decimal.Lts as lts
+use Rattle.buffer.proofs.fill.Reads as fill-reads
+use Rattle.field_written.proofs.columns.decimal_columns.Reads as decimal-columns-reads
 use Rattle.field_written.proofs.decimal.put_decimal.Reads as put-decimal-reads
 use Rattle.number.proofs.rounding.round.Reads as round-reads
 use Rattle.number.proofs.sign.is_negative.Reads as is-negative-reads
@@ -38,24 +40,36 @@ enum-known-r c = search needs
 stays-negative-requires : tie.Need-stays-negative-requires
 stays-negative-requires c κs = search needs
 
-put-decimal-requires : tie.Need-put-decimal-requires
-put-decimal-requires c κs =
-    let r = c .before .before .before in
+decimal-columns-requires : tie.Need-decimal-columns-requires
+decimal-columns-requires c κs =
+    let r = c .before .before in
     let o = r .before .before in
-    (omega arith, omega arith, omega (arith, units-of _ _ _ (sym (o .round .ensures) ∙ r .r .given .1) .1, magnitude-is (o .before)))
+    (omega arith, omega (arith, units-of _ _ _ (sym (o .round .ensures) ∙ r .r .given .1) .1, magnitude-is (o .before)))
+
+fill-requires : tie.Need-fill-requires
+fill-requires c κs = search needs
 
 same-length : tie.Need-same-length
 same-length c = search needs
 
 returns : tie.Need-returns
 returns c =
-    let p = c .before .before .before in
-    let b = p .before .before in
+    let f = c .before .before in
+    let i = f .before .before in
+    let n = i .before in
+    let b = n .before in
     let r = b .before .before in
     let o = r .before .before in
     let m = o .before in
-    let w = decimal-written (m .before .before .before .args .width) _ _ _ (magnitude-is m) (sym (o .round .ensures) ∙ r .r .given .1) (negative-is (m .before)) (b .stays-negative .ensures) in
-    (sym (w .0 ∙ rw (sym (p .put-decimal .ensures .0) ∙ c .if1 .taken)), p .put-decimal .ensures .1 ∙ sym (w .1 _ _))
+    let w = decimal-starred (m .before .before .before .args .width) _ _ _ (magnitude-is m) (sym (o .round .ensures) ∙ r .r .given .1) (negative-is (m .before)) (b .stays-negative .ensures) (n .decimal-columns .ensures .0) (i .if1 .taken) in
+    (w .0, f .fill .ensures ∙ w .1 _ _)
+
+put-decimal-requires : tie.Need-put-decimal-requires
+put-decimal-requires c κs =
+    let n = c .before .before in
+    let r = n .before .before .before in
+    let o = r .before .before in
+    (omega arith, omega arith, n .decimal-columns .ensures .0, omega arith, omega (arith, units-of _ _ _ (sym (o .round .ensures) ∙ r .r .given .1) .1))
 
 enum-told : tie.Need-enum-told
 enum-told c = search needs
@@ -65,20 +79,22 @@ same-length-2 c = search needs
 
 returns-2 : tie.Need-returns-2
 returns-2 c =
-    let p = c .before .before .before in
-    let b = p .before .before in
+    let f = c .before .before in
+    let i = f .before .before in
+    let n = i .before in
+    let b = n .before in
     let r = b .before .before in
     let o = r .before .before in
     let m = o .before in
-    let w = decimal-written (m .before .before .before .args .width) _ _ _ (magnitude-is m) (sym (o .round .ensures) ∙ r .r .given .1) (negative-is (m .before)) (b .stays-negative .ensures) in
-    (sym (w .0 ∙ rw (sym (p .put-decimal .ensures .0) ∙ c .if1 .left)), p .put-decimal .ensures .1 ∙ sym (w .1 _ _))
+    let w = decimal-shown (m .before .before .before .args .width) _ _ _ (magnitude-is m) (sym (o .round .ensures) ∙ r .r .given .1) (negative-is (m .before)) (b .stays-negative .ensures) (n .decimal-columns .ensures .0) (i .if1 .left) in
+    (w .0, f .put-decimal .ensures ∙ w .1 _ _)
 
 returns-3 : tie.Need-returns-3
 returns-3 c =
     let o = c .before .before in
     let m = o .before in
     let w = decimal-large (m .before .before .before .args .width) _ _ _ (magnitude-is m) (sym (o .round .ensures) ∙ c .enum-told .given .1) in
-    (sym (w .0), sym (w .1 _ _))
+    (w .0, w .1 _ _)
 
 pub write-decimal-spec : {M : Type 1} → statement M
 write-decimal-spec =
@@ -89,9 +105,11 @@ write-decimal-spec =
     round-requires
     enum-known-r
     stays-negative-requires
-    put-decimal-requires
+    decimal-columns-requires
+    fill-requires
     same-length
     returns
+    put-decimal-requires
     enum-told
     same-length-2
     returns-2

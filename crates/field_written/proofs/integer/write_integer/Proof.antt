@@ -1,15 +1,18 @@
+use mathlib.Core.Path.{_≡_, ap, _∙_}
 use native.Mathlib.Omega.{arith}
-use mathlib.Core.Path.{_≡_, sym, ap, _∙_}
 use lib.IntN.{natAbs}
 use mir.Facts.{toZ-ofZ}
 use Rattle.buffer.specs.Splice.{splice}
 use Rattle.number.specs.Magnitude.{negative}
-use Rattle.field_written.proofs.Answer.{integer-written}
+use Rattle.field_written.specs.Numeral.{I}
+use Rattle.field_written.proofs.Answer.{number-starred, number-shown}
 use borrow.Author.Needs.{needs}
 use Rattle.field_written.proofs.integer.write_integer.Statement.{statement}
 use Rattle.field_written.proofs.integer.write_integer.Tie as tie
 use Rattle.field_written.proofs.integer.write_integer.Reads as reads
 use Rattle.field_written.proofs.integer.write_integer.Lts as lts
+use Rattle.buffer.proofs.fill.Reads as fill-reads
+use Rattle.field_written.proofs.columns.integer_columns.Reads as integer-columns-reads
 use Rattle.field_written.proofs.integer.put_integer.Reads as put-integer-reads
 use Rattle.number.proofs.sign.is_negative.Reads as is-negative-reads
 use Rattle.number.proofs.sign.magnitude.Reads as magnitude-reads
@@ -27,20 +30,51 @@ is-negative-requires c κs = search needs
 magnitude-requires : tie.Need-magnitude-requires
 magnitude-requires c κs = search needs
 
-put-integer-requires : tie.Need-put-integer-requires
-put-integer-requires c κs = omega (arith, magnitude-is (c .before))
+integer-columns-requires : tie.Need-integer-columns-requires
+integer-columns-requires c κs = omega (arith, magnitude-is c)
+
+fill-requires : tie.Need-fill-requires
+fill-requires c κs = search needs
 
 same-length : tie.Need-same-length
 same-length c = search needs
 
 returns : tie.Need-returns
 returns c =
-    let p = c .before .before in
-    let m = p .before .before in
-    let w = integer-written (c .before .before .before .before .before .before .before .args .width) _ (negative-is (m .before)) (magnitude-is m) in
-    (p .put-integer .ensures .0 ∙ sym (w .0), p .put-integer .ensures .1 ∙ ap (splice _ _) (sym (w .1)))
+    let f = c .before .before in
+    let i = f .before .before in
+    let n = i .before in
+    let m = n .before in
+    let w = number-starred I (m .before .before .before .args .width) _ (negative-is (m .before)) (magnitude-is m) (n .integer-columns .ensures .0) (i .if1 .taken) in
+    (w .0, f .fill .ensures ∙ ap (splice _ _) (w .1))
+
+put-integer-requires : tie.Need-put-integer-requires
+put-integer-requires c κs =
+    let n = c .before .before in
+    (omega arith, omega arith, n .integer-columns .ensures .0, omega (arith, magnitude-is (n .before)))
+
+same-length-2 : tie.Need-same-length-2
+same-length-2 c = search needs
+
+returns-2 : tie.Need-returns-2
+returns-2 c =
+    let f = c .before .before in
+    let i = f .before .before in
+    let n = i .before in
+    let m = n .before in
+    let w = number-shown I (m .before .before .before .args .width) _ (negative-is (m .before)) (magnitude-is m) (n .integer-columns .ensures .0) (i .if1 .left) in
+    (w .0, f .put-integer .ensures ∙ ap (splice _ _) (w .1))
 
 pub write-integer-spec : {M : Type 1} → statement M
 write-integer-spec =
     tie.close
-    (tie.spec is-negative-requires magnitude-requires put-integer-requires same-length returns)
+    (tie.spec
+    is-negative-requires
+    magnitude-requires
+    integer-columns-requires
+    fill-requires
+    same-length
+    returns
+    put-integer-requires
+    same-length-2
+    returns-2)

@@ -39,7 +39,7 @@ loop-again c =
     let l = c .before .before .before in (
       omega arith,
       omega arith,
-      count-more (l .before .args .m) (l .loop .n) (l .before .pre) (rw (c .before .power-of-ten .ensures .0) at (c .if1 .left)),
+      count-more (l .before .args .m) (l .loop .n) (rw (c .before .power-of-ten .ensures .0) at (c .if1 .left)),
     )
 
 returns-2 : tie.Need-returns-2 Inv-loop μ-loop

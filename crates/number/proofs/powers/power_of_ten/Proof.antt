@@ -1,4 +1,4 @@
--- `numeral::power_of_ten` meets its contract: the table's rule is one test, which antt computes at each of the 19 entries.
+-- `number::powers::power_of_ten` meets its contract: the table's rule is one test, which antt computes at each of the 19 entries.
 -- Assumes nothing.
 use mathlib.Core.List.{List, [], _∷_}
 use mathlib.Core.Bool.{Bool}
