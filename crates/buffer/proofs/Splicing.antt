@@ -1,13 +1,13 @@
 -- Laws of `splice`.
 -- Assumes nothing.
-use mathlib.Core.Path.{_≡_, refl, sym, ap, subst, _∙_}
+use mathlib.Core.Path.{_≡_, refl, sym, ap, _∙_}
 use mathlib.Core.List.{List, [], _∷_, _++_, append-assoc, append-nil}
-use Prim.Native.Nat.{ℕ, zero, suc, _+_, _-_, _<_, _≤_}
+use Prim.Native.Nat.{ℕ, _+_, _<_, _≤_}
 use native.Mathlib.Nat.{add-assoc, add-zero}
 use native.Mathlib.Numerals.{add-one}
 use native.Mathlib.Omega.{arith}
 use lib.ListN.{length, take, drop, set, getD, length-append, length-drop, length-set, take-append-drop}
-use lib.Seq.{paste, paste-zero, paste-suc, take-length, length-take-le, take-append-add, drop-append-add, drop-append-le, take-at, drop-drop, set-split, append-snoc}
+use lib.Seq.{paste, paste-zero, paste-suc, take-length, length-take-le, drop-append-add, take-at, drop-drop, set-split, append-snoc}
 use Rattle.buffer.specs.Splice.{splice}
 
 -- all of xs is pasted

@@ -3,24 +3,24 @@
 use mathlib.Core.Path.{_≡_, refl, sym, ap, _∙_}
 use mathlib.Core.Bool.{Bool, true, false, cond}
 use mathlib.Core.List.{List, [], _∷_, _++_, append-nil, append-assoc}
-use Prim.Native.Nat.{ℕ, zero, suc, _+_, _*_, _^_, _<_, _≤_}
+use Prim.Native.Nat.{ℕ, suc, _+_, _*_, _^_, _<_, _≤_}
 use native.Mathlib.Nat.{zero-add}
 use native.Mathlib.Omega.{arith}
-use borrow.Author.Tests.{eq-eqb, ne-eqb, lt-ltb}
+use borrow.Author.Tests.{ne-eqb, lt-ltb}
 use lib.Dec.{eqb}
 use lib.ListN.{length, drop, getD, length-append}
 use lib.IntN.{pos}
 use Rattle.buffer.specs.Characters.{plusSign, minusSign}
-use Rattle.number.specs.Magnitude.{largest, withSign}
+use Rattle.number.specs.Magnitude.{withSign}
 use Rattle.number.specs.Digits.{Digits, value}
 use Rattle.number.proofs.DigitLaws.{value-append, digits-append}
-use Rattle.field_written.specs.Numeral.{Numeric, I, F, places, Sign, none, plus, minus, signed}
+use Rattle.field_written.specs.Numeral.{Numeric, I, F, places, Sign, none, plus, minus}
 use Rattle.field_written.specs.Written.{minusIf}
 use Rattle.field_read.specs.Read.{unblanked, signOf, afterSign, beforePoint, fromPoint, numberRead, placesRead, readDigits, readField}
 use Rattle.field_read.specs.Steps.{Skipped, isMinus, Signed, Ran, RunTooLarge}
 use Rattle.field_read.specs.declared.FieldRead.the-variants.{Number, Refused}
 use Rattle.field_read.proofs.Blanks.{at-other, at-end}
-use Rattle.field_read.proofs.Numbers.{Other, number-good, number-bad, number-over, number-long, signed-as, plus-none, before-digits, from-digits, before-other, at-point, before-all, from-all}
+use Rattle.field_read.proofs.Numbers.{number-good, number-bad, number-over, number-long, signed-as, plus-none, before-digits, from-digits, before-other, at-point, before-all, from-all}
 
 -- ---- the front
 

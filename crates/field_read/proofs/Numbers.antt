@@ -1,14 +1,14 @@
 -- Laws of a number read: its digits, the point, and its limits.
 -- Assumes nothing.
-use mathlib.Core.Path.{_≡_, refl, sym, ap, _∙_}
+use mathlib.Core.Path.{_≡_, refl, ap}
 use mathlib.Core.Bool.{Bool, true, false, _&&_, cond, and-false}
 use mathlib.Core.List.{List, [], _∷_, _++_}
-use Prim.Native.Nat.{ℕ, zero, suc, _+_, _*_, _^_, _<_, _≤_}
-use native.Mathlib.Nat.{mul-le-mul-left, mul-one, le-trans}
+use Prim.Native.Nat.{ℕ, suc, _<_, _≤_}
+use native.Mathlib.Nat.{mul-le-mul-left, mul-one}
 use native.Mathlib.Omega.{arith}
-use borrow.Author.Tests.{eq-eqb, ne-eqb, lt-ltb, le-ltb, le-leb, lt-leb, leb-true}
+use borrow.Author.Tests.{ne-eqb, lt-ltb, le-leb, lt-leb, leb-true}
 use lib.Dec.{leb, eqb, ltb}
-use lib.ListN.{length, drop}
+use lib.ListN.{length}
 use Rattle.number.specs.Magnitude.{largest, withSign}
 use Rattle.number.specs.Digits.{Digits, allDigits, value}
 use Rattle.number.proofs.PowerLaws.{ten-pos}

@@ -1,24 +1,23 @@
 -- The promises of specs/Promises.antt.
 -- Assumes nothing.
-use mathlib.Core.Path.{_≡_, refl, sym, ap, _∙_}
-use mathlib.Core.Bool.{Bool, true, false, cond}
+use mathlib.Core.Path.{_≡_, refl, ap, _∙_}
+use mathlib.Core.Bool.{false}
 use mathlib.Core.List.{List, [], _∷_, _++_, append-nil}
 use Prim.Native.Nat.{ℕ, zero, suc, _+_, _<_, _≤_}
-use native.Mathlib.Nat.{not-suc-le-zero, le-trans}
+use native.Mathlib.Nat.{not-suc-le-zero}
 use native.Mathlib.Omega.{arith}
-use borrow.Author.Tests.{ne-eqb, lt-ltb, ltb-false}
-use lib.Dec.{eqb, ltb}
+use borrow.Author.Tests.{ne-eqb, lt-ltb}
 use lib.ListN.{length, drop, replicate, length-append}
-use lib.IntN.{ℤ, pos, negℤ, natAbs}
+use lib.IntN.{ℤ, natAbs}
 use Rattle.buffer.specs.Characters.{asterisk}
 use Rattle.number.specs.Magnitude.{largest, mostPlaces}
 use Rattle.number.specs.Digits.{Digits, value}
 use Rattle.number.specs.Rounding.{roundedUnits}
 use Rattle.number.proofs.DigitLaws.{digits-append}
-use Rattle.field_written.specs.Numeral.{Setting, Numeric, I, F, places, point, Sign, none, plus, minus, signBytes, signed, Numeral, characters, standsFor}
-use Rattle.field_written.specs.Written.{field, starred, decimalField, putDecimal, putRefusal, putStarred}
+use Rattle.field_written.specs.Numeral.{Setting, Numeric, I, F, places, point, Sign, none, plus, minus, signBytes, signed, Numeral, characters}
+use Rattle.field_written.specs.Written.{field, starred, decimalField, putRefusal, putStarred}
 use Rattle.field_written.proofs.Promises.{unstarred-is-numeral, Case, large, narrow-case, wide-case, case-of, clash, small-units}
-use Rattle.field_read.specs.Read.{unblanked, signOf, afterSign, beforePoint, fromPoint, numberRead, placesRead, readDigits, readField, readRefusal, shownDecimal}
+use Rattle.field_read.specs.Read.{unblanked, beforePoint, fromPoint, numberRead, placesRead, readDigits, readField, readRefusal, shownDecimal}
 use Rattle.field_read.specs.Promises.{NumeralReads, IntegerReadsBack, DecimalReadsBack, StarsRefused}
 use Rattle.field_read.specs.declared.FieldRead.the-variants.{Number, Refused}
 use Rattle.field_read.proofs.Blanks.{unblanked-append, unblanked-blanks, unblanked-digits}

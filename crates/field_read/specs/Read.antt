@@ -1,6 +1,6 @@
 -- Document 01, 'Fields read': I and F, and the shown value.
 -- Assumes nothing.
-use mathlib.Core.Bool.{Bool, true, false, _&&_, cond}
+use mathlib.Core.Bool.{_&&_, cond}
 use mathlib.Core.List.{List, [], _∷_, _++_}
 use Prim.Native.Nat.{ℕ}
 use lib.Dec.{ltb, leb, eqb}

@@ -1,7 +1,7 @@
 -- What is written of an integer, and of a decimal by what rounding answers, as the code has its numbers.
 -- Assumes nothing.
-use mathlib.Core.Path.{_≡_, refl, sym, ap, subst, _∙_}
-use mathlib.Core.Bool.{Bool, true, false, cond}
+use mathlib.Core.Path.{_≡_, sym, _∙_}
+use mathlib.Core.Bool.{Bool, true, false}
 use mathlib.Core.List.{List}
 use Prim.Native.Nat.{ℕ, _<_, _≤_}
 use borrow.Author.Tests.{lt-ltb, le-ltb}
@@ -14,7 +14,7 @@ use Rattle.number.specs.Rounding.{roundedMagnitude, roundedUnits, tooLarge, rou
 use Rattle.number.specs.declared.Rounded.the-variants.{Units, TooLarge}
 use Rattle.number.proofs.RoundingLaws.{units-of, large-of}
 use Rattle.number.proofs.SignLaws.{natAbs-with}
-use Rattle.field_written.specs.Numeral.{Numeric, I, F, plain}
+use Rattle.field_written.specs.Numeral.{Numeric, F, plain}
 use Rattle.field_written.specs.Written.{minusIf, fewestColumns, fieldText, field, starred, putDecimal, afterDecimal}
 use Rattle.field_written.specs.declared.Put.the-variants as put
 use Rattle.field_written.proofs.Cases.{stars}

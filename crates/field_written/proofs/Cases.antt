@@ -1,13 +1,13 @@
 -- The numeric field by cases on its width.
 -- Assumes nothing.
-use mathlib.Core.Path.{_≡_, refl, sym, ap, subst, _∙_}
+use mathlib.Core.Path.{_≡_, refl, sym, _∙_}
 use mathlib.Core.Bool.{Bool, true, false, cond}
 use mathlib.Core.List.{List, _++_, append-nil}
-use Prim.Native.Nat.{ℕ, zero, suc, _+_, _-_, _/_, _%_, _^_, _<_, _≤_}
-use native.Mathlib.Nat.{div-one, div-le-self, mod-lt, le-trans}
+use Prim.Native.Nat.{ℕ, _+_, _-_, _/_, _%_, _^_, _<_, _≤_}
+use native.Mathlib.Nat.{div-one, div-le-self, mod-lt}
 use native.Mathlib.Omega.{arith}
-use borrow.Author.Tests.{lt-ltb, le-ltb, le-leb, lt-leb, ltb-true, ltb-false}
-use lib.Dec.{ltb, leb}
+use borrow.Author.Tests.{le-leb, lt-leb, ltb-true, ltb-false}
+use lib.Dec.{ltb}
 use lib.ListN.{length, replicate, length-append}
 use Rattle.buffer.specs.Characters.{blank, asterisk}
 use Rattle.number.specs.Magnitude.{largest}
@@ -16,7 +16,7 @@ use Rattle.number.proofs.PowerLaws.{ten-pos}
 use Rattle.number.proofs.DigitLaws.{length-digits, digits-cut, digitCount-least, digitCount-holds, digitCount-pos}
 use Rattle.field_written.specs.Numeral.{Numeric, I, F, places, point, Sign, signBytes, layout}
 use Rattle.field_written.specs.Written.{mostDigits, fewestDigits, numeralText, fieldText, fewestColumns}
-use Rattle.field_written.proofs.Fewest.{wholePart, Fewest, gone, kept, fewest-cases, most-holds, most-zero, most-some, fewest-most, fewest-holds, fewest-integer, fewest-none, fewest-some}
+use Rattle.field_written.proofs.Fewest.{wholePart, most-holds, most-zero, most-some, fewest-most, fewest-holds, fewest-integer, fewest-none, fewest-some}
 
 -- the columns beside the digits before the point
 unfoldable pub beside : Numeric → Sign → ℕ

@@ -1,7 +1,7 @@
 -- The digits before the point: how many hold the integer part.
 -- Assumes nothing.
-use mathlib.Core.Path.{_≡_, refl, sym, ap, subst, _∙_}
-use mathlib.Core.Bool.{Bool, true, false, _&&_, cond}
+use mathlib.Core.Path.{_≡_, refl}
+use mathlib.Core.Bool.{Bool, true, false}
 use Prim.Native.Nat.{ℕ, zero, suc, _+_, _-_, _/_, _^_, _<_, _≤_}
 use native.Mathlib.Nat.{div-eq-of-lt, div-lt-iff-lt-mul, div-one, lt-of-lt-of-le}
 use native.Mathlib.Omega.{arith}

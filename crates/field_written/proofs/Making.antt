@@ -1,11 +1,11 @@
 -- The loop that makes digits from the most significant one on.
 -- Assumes nothing.
-use mathlib.Core.Path.{_≡_, refl, sym, ap, _∙_}
+use mathlib.Core.Path.{_≡_, sym, ap, _∙_}
 use mathlib.Core.List.{List}
 use Prim.Native.Nat.{ℕ, suc, _+_, _-_, _/_, _%_, _^_, _<_, _≤_}
 use native.Mathlib.Nat.{mod-eq-of-lt, mod-lt, sub-zero}
 use native.Mathlib.Omega.{arith}
-use lib.ListN.{length, getD, set}
+use lib.ListN.{length, set}
 use Rattle.buffer.specs.Splice.{splice}
 use Rattle.buffer.proofs.Splicing.{Written, written-none, written-more, written-all}
 use Rattle.number.specs.Digits.{digitsOf}

@@ -1,12 +1,12 @@
 -- The promises of specs/Promises.antt.
 -- Assumes nothing.
-use mathlib.Core.Path.{_≡_, refl, sym, ap, subst, _∙_}
+use mathlib.Core.Path.{_≡_, refl, sym, ap, _∙_}
 use mathlib.Core.Logic.{_↔_}
-use mathlib.Core.Bool.{Bool, true, false, cond}
+use mathlib.Core.Bool.{Bool, true, false}
 use mathlib.Core.List.{List, [], _∷_, _++_}
-use Prim.Native.Nat.{ℕ, zero, suc, _+_, _-_, _*_, _/_, _%_, _^_, _≤_, _<_}
+use Prim.Native.Nat.{ℕ, zero, suc, _+_, _-_, _*_, _^_, _≤_, _<_}
 use native.Mathlib.Decide.{decLe}
-use native.Mathlib.Nat.{mod-eq-of-lt, div-add-mod', not-suc-le-zero}
+use native.Mathlib.Nat.{mod-eq-of-lt, div-add-mod'}
 use native.Mathlib.Omega.{arith}
 use borrow.Author.Tests.{ltb-true, ltb-false}
 use lib.Arith.{digits-div}
@@ -25,7 +25,7 @@ use Rattle.field_written.specs.Written.{signFor, mostDigits, fewestDigit
 use Rattle.field_written.specs.Promises.{FieldLength, StarredIs, StarsExactlyWhen, UnstarredIsNumeral, DecimalRefusedWhen, DecimalRefusedLeaves, DecimalStarsExactlyWhen, DecimalStarred, DecimalShown}
 use Rattle.field_written.specs.declared.Put.{Put}
 use Rattle.field_written.specs.declared.Put.the-variants as put
-use Rattle.field_written.proofs.Fewest.{wholePart, most-holds, most-pos, fewest-most, fewest-holds, fewest-least}
+use Rattle.field_written.proofs.Fewest.{wholePart, most-holds, most-pos, fewest-holds, fewest-least}
 use Rattle.field_written.proofs.Cases.{beside, length-numeral, shownText, columns-are, stars, with-most, with-fewest}
 
 -- ---- signs

@@ -12,7 +12,7 @@ use Rattle.buffer.specs.Splice.{splice}
 use Rattle.number.specs.Magnitude.{largest}
 use Rattle.number.specs.Rounding.{Nearest}
 use Rattle.field_written.specs.Numeral.{Setting, Numeric, F, Numeral, characters, standsFor}
-use Rattle.field_written.specs.Written.{field, starred, decimalField, putDecimal, afterDecimal, putRefusal, putStarred}
+use Rattle.field_written.specs.Written.{field, starred, putDecimal, afterDecimal, putRefusal, putStarred}
 
 -- a field has w characters
 abbrev pub FieldLength : Type 0

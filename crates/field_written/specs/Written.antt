@@ -11,7 +11,7 @@ use Rattle.buffer.specs.Splice.{splice}
 use Rattle.number.specs.Magnitude.{negative}
 use Rattle.number.specs.Digits.{digitsOf, digitCount}
 use Rattle.number.specs.Rounding.{roundedUnits, tooLarge}
-use Rattle.field_written.specs.Numeral.{Numeric, I, F, places, Sign, none, minus, layout, Setting, plain}
+use Rattle.field_written.specs.Numeral.{Numeric, F, places, Sign, none, minus, layout, Setting, plain}
 use Rattle.field_written.specs.declared.Put.{Put}
 use Rattle.field_written.specs.declared.Put.the-variants.{Shown, Starred, TooLarge}
 

@@ -1,10 +1,12 @@
 -- Laws of the powers of ten.
 -- Assumes nothing.
 use mathlib.Core.Path.{_≡_, ap, _∙_}
+use mathlib.Core.List.{List, [], _∷_}
 use Prim.Native.Nat.{ℕ, zero, suc, _+_, _-_, _*_, _/_, _^_, _<_, _≤_}
 use native.Mathlib.Decide.{decLt}
-use native.Mathlib.Nat.{lt-irrefl, lt-of-lt-of-le, pow-le-pow-right, one-le-pow, pow-suc}
+use native.Mathlib.Nat.{lt-irrefl, lt-of-lt-of-le, pow-le-pow-right, one-le-pow, pow-suc, not-suc-le-zero, le-of-suc-le-suc}
 use native.Mathlib.Omega.{arith}
+use lib.ListN.{getD}
 use lib.Pow.{pow-add}
 
 pub ten-pos : (k : ℕ) → 0 < 10 ^ k
@@ -26,3 +28,17 @@ ten-split s d h =
 pub ten-half : (k : ℕ) → 0 < k → 2 * (10 ^ k / 2) ≡ 10 ^ k
 ten-half zero h = omega arith
 ten-half (suc k) h = rw (pow-suc 10 k) (omega arith)
+
+-- ---- the table
+
+-- the n powers of ten from 10^i on
+unfoldable pub tens : ℕ → ℕ → List ℕ
+tens i zero = []
+tens i (suc n) = 10 ^ i ∷ tens (suc i) n
+
+-- its rule, over all entries
+pub tens-at : (n i k : ℕ) → k < n → getD (tens i n) k 0 ≡ 10 ^ (i + k)
+unfolding tens
+tens-at zero i k h = absurd (not-suc-le-zero h)
+tens-at (suc n) i zero h = ap (λ (e : ℕ). 10 ^ e) (omega arith)
+tens-at (suc n) i (suc k) h = tens-at n (suc i) k (le-of-suc-le-suc h) ∙ ap (λ (e : ℕ). 10 ^ e) (omega arith)

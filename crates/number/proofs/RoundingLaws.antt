@@ -3,7 +3,7 @@
 use mathlib.Core.Path.{_≡_, refl, sym, ap, subst, _∙_}
 use mathlib.Core.Bool.{Bool, true, false, cond}
 use Prim.Native.Nat.{ℕ, zero, suc, _+_, _-_, _*_, _/_, _^_, _<_, _≤_}
-use native.Mathlib.Decide.{decLt, decLe}
+use native.Mathlib.Decide.{decLt}
 use native.Mathlib.Nat.{mul-assoc, mul-left-comm, add-mul, mul-div-mul-left, mul-div-mul-right, le-div-iff-mul-le, div-lt-iff-lt-mul, div-mul-le-self, lt-div-mul-add, mul-le-mul-right, le-antisymm, zero-mul}
 use native.Mathlib.Omega.{arith}
 use lib.Arith.{digits-div}

@@ -1,15 +1,15 @@
 -- Laws of sign and magnitude.
 -- Assumes nothing.
-use mathlib.Core.Path.{_≡_, refl, sym, ap, subst, _∙_}
-use mathlib.Core.Bool.{Bool, true, false, not}
-use Prim.Native.Nat.{ℕ, zero, suc, _<_, _≤_, _^_}
+use mathlib.Core.Path.{_≡_, refl, sym, subst, _∙_}
+use mathlib.Core.Bool.{Bool, true, false}
+use Prim.Native.Nat.{ℕ, zero, suc, _≤_}
 use native.Mathlib.Omega.{arith}
 use lib.Dec.{T, ltb, leb·suc-zero}
-use lib.IntN.{ℤ, pos, negsuc, natAbs, negℤ, _-ℤ_, _+ℤ_, +ℤ-idl}
-use lib.Signed.{nonNeg, ltZ, mag}
+use lib.IntN.{ℤ, pos, negsuc, natAbs, negℤ, _-ℤ_, +ℤ-idl}
+use lib.Signed.{nonNeg, ltZ}
 use borrow.Author.Tests.{lt-ltb}
 use mir.Syntax.{w64}
-use mir.Val.{SFits, Fits}
+use mir.Val.{SFits}
 use Rattle.number.specs.Magnitude.{largest, negative, withSign}
 
 pub below-zero : (n : ℤ) → ltZ n (pos 0) ≡ negative n

@@ -1,14 +1,12 @@
-use mathlib.Core.Path.{_≡_, sym, subst, _∙_}
+-- `field_read::decimal::read_decimal` meets its contract.
+-- Assumes nothing.
+use mathlib.Core.Path.{sym, subst, _∙_}
 use Rattle.field_written.specs.Numeral.{F}
 use Rattle.field_read.specs.Steps.{FrontIs}
 use Rattle.field_read.proofs.Cases.{read-nothing, signed-reads}
 use borrow.Author.Needs.{needs}
 use Rattle.field_read.proofs.decimal.read_decimal.Statement.{statement}
 use Rattle.field_read.proofs.decimal.read_decimal.Tie as tie
-use Rattle.field_read.proofs.decimal.read_decimal.Reads as reads
-use Rattle.field_read.proofs.decimal.read_decimal.Lts as lts
-use Rattle.field_read.proofs.decimal.read_units.Reads as read-units-reads
-use Rattle.field_read.proofs.leading.read_front.Reads as read-front-reads
 
 read-front-requires : tie.Need-read-front-requires
 read-front-requires c κs = search needs

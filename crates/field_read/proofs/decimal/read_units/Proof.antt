@@ -1,3 +1,5 @@
+-- `field_read::decimal::read_units` meets its contract.
+-- Assumes nothing.
 use mathlib.Core.Path.{_≡_, subst, _∙_}
 use Prim.Native.Nat.{_+_}
 use native.Mathlib.Omega.{arith}
@@ -8,10 +10,6 @@ use Rattle.field_read.proofs.Cases.{units-ended, units-other, units-poi
 use borrow.Author.Needs.{needs}
 use Rattle.field_read.proofs.decimal.read_units.Statement.{statement}
 use Rattle.field_read.proofs.decimal.read_units.Tie as tie
-use Rattle.field_read.proofs.decimal.read_units.Reads as reads
-use Rattle.field_read.proofs.decimal.read_units.Lts as lts
-use Rattle.field_read.proofs.digits.number_of.Reads as number-of-reads
-use Rattle.field_read.proofs.digits.read_run.Reads as read-run-reads
 
 -- the run before the point, and its number
 found : (c : tie.After-known-told) → Ran (now (c .before .before .before .before .before .args .part)) (c .before .before .before .before .before .args .from) 0 (c .before .value .given .0 .0) (c .before .value .given .0 .1 .0) (c .before .value .given .0 .1 .1 .0)

@@ -1,12 +1,11 @@
+-- `field_read::digits::number_of` meets its contract.
+-- Assumes nothing.
 use mir.Facts.{toZ-ofZ}
 use Rattle.number.proofs.SignLaws.{with-fits}
 use borrow.Author.Tests.{eq-eqb, ne-eqb}
 use borrow.Author.Needs.{needs}
 use Rattle.field_read.proofs.digits.number_of.Statement.{statement}
 use Rattle.field_read.proofs.digits.number_of.Tie as tie
-use Rattle.field_read.proofs.digits.number_of.Reads as reads
-use Rattle.field_read.proofs.digits.number_of.Lts as lts
-use Rattle.number.proofs.sign.with_sign.Reads as with-sign-reads
 
 returns : tie.Need-returns
 returns c = simp (eq-eqb _ _ (c .if1 .taken))

@@ -1,12 +1,11 @@
+-- `field_read::digits::read_run` meets its contract.
+-- Assumes nothing.
 use Prim.Native.Nat.{_-_}
 use native.Mathlib.Omega.{arith}
 use lib.ListN.{length}
 use Rattle.field_read.proofs.Running.{Running, running-none, running-blank, running-stop, running-digit, running-over}
 use Rattle.field_read.proofs.digits.read_run.Statement.{statement}
 use Rattle.field_read.proofs.digits.read_run.Tie as tie
-use Rattle.field_read.proofs.digits.read_run.Reads as reads
-use Rattle.field_read.proofs.digits.read_run.Lts as lts
-use Rattle.field_read.proofs.digits.wide.Reads as wide-reads
 
 abbrev Inv-loop : tie.InvT-loop
 Inv-loop part from v value₀ count₀ i₀ value count i = Running part from v value count i

@@ -1,15 +1,12 @@
-use mathlib.Core.Path.{_≡_, sym, subst, _∙_}
-use denote.Ref.{now}
+-- `field_read::integer::read_integer` meets its contract.
+-- Assumes nothing.
+use mathlib.Core.Path.{sym, subst, _∙_}
 use Rattle.field_written.specs.Numeral.{I}
 use Rattle.field_read.specs.Steps.{FrontIs}
 use Rattle.field_read.proofs.Cases.{read-nothing, signed-reads}
 use borrow.Author.Needs.{needs}
 use Rattle.field_read.proofs.integer.read_integer.Statement.{statement}
 use Rattle.field_read.proofs.integer.read_integer.Tie as tie
-use Rattle.field_read.proofs.integer.read_integer.Reads as reads
-use Rattle.field_read.proofs.integer.read_integer.Lts as lts
-use Rattle.field_read.proofs.integer.read_whole.Reads as read-whole-reads
-use Rattle.field_read.proofs.leading.read_front.Reads as read-front-reads
 
 read-front-requires : tie.Need-read-front-requires
 read-front-requires c κs = search needs

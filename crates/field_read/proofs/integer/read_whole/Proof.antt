@@ -1,14 +1,12 @@
-use mathlib.Core.Path.{_≡_, sym, subst, _∙_}
+-- `field_read::integer::read_whole` meets its contract.
+-- Assumes nothing.
+use mathlib.Core.Path.{subst, _∙_}
 use denote.Ref.{now}
 use Rattle.field_read.specs.Steps.{Ran, RunTooLarge, RunIs}
 use Rattle.field_read.proofs.Cases.{whole-ended, whole-stopped, whole-over}
 use borrow.Author.Needs.{needs}
 use Rattle.field_read.proofs.integer.read_whole.Statement.{statement}
 use Rattle.field_read.proofs.integer.read_whole.Tie as tie
-use Rattle.field_read.proofs.integer.read_whole.Reads as reads
-use Rattle.field_read.proofs.integer.read_whole.Lts as lts
-use Rattle.field_read.proofs.digits.number_of.Reads as number-of-reads
-use Rattle.field_read.proofs.digits.read_run.Reads as read-run-reads
 
 -- the run that was found
 found : (c : tie.After-known-told) → Ran (now (c .before .before .before .before .before .args .part)) (c .before .before .before .before .before .args .from) 0 (c .before .value .given .0 .0) (c .before .value .given .0 .1 .0) (c .before .value .given .0 .1 .1 .0)

@@ -1,11 +1,9 @@
-use native.Mathlib.Omega.{arith}
+-- `field_read::leading::read_front` meets its contract.
+-- Assumes nothing.
 use Rattle.field_read.proofs.Cases.{front-nothing, front-plus, front-minus, front-none}
 use borrow.Author.Needs.{needs}
 use Rattle.field_read.proofs.leading.read_front.Statement.{statement}
 use Rattle.field_read.proofs.leading.read_front.Tie as tie
-use Rattle.field_read.proofs.leading.read_front.Reads as reads
-use Rattle.field_read.proofs.leading.read_front.Lts as lts
-use Rattle.field_read.proofs.leading.skip_blanks.Reads as skip-blanks-reads
 
 skip-blanks-requires : tie.Need-skip-blanks-requires
 skip-blanks-requires c κs = search needs

@@ -1,11 +1,11 @@
+-- `field_read::leading::skip_blanks` meets its contract.
+-- Assumes nothing.
 use Prim.Native.Nat.{_-_}
 use native.Mathlib.Omega.{arith}
 use lib.ListN.{length}
 use Rattle.field_read.proofs.Blanks.{Skipping, skipping-none, skipping-more, skipping-stop}
 use Rattle.field_read.proofs.leading.skip_blanks.Statement.{statement}
 use Rattle.field_read.proofs.leading.skip_blanks.Tie as tie
-use Rattle.field_read.proofs.leading.skip_blanks.Reads as reads
-use Rattle.field_read.proofs.leading.skip_blanks.Lts as lts
 
 abbrev Inv-loop : tie.InvT-loop
 Inv-loop part i₀ i = Skipping part i

@@ -1,12 +1,10 @@
+-- `field_written::columns::integer_columns` meets its contract.
+-- Assumes nothing.
 use native.Mathlib.Omega.{arith}
 use Rattle.field_written.proofs.Cases.{integer-need}
 use borrow.Author.Needs.{needs}
 use Rattle.field_written.proofs.columns.integer_columns.Statement.{statement}
 use Rattle.field_written.proofs.columns.integer_columns.Tie as tie
-use Rattle.field_written.proofs.columns.integer_columns.Reads as reads
-use Rattle.field_written.proofs.columns.integer_columns.Lts as lts
-use Rattle.field_written.proofs.columns.sign_width.Reads as sign-width-reads
-use Rattle.number.proofs.digits.digit_count.Reads as digit-count-reads
 
 sign-width-requires : tie.Need-sign-width-requires
 sign-width-requires c κs = search needs

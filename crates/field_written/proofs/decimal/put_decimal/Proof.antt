@@ -1,18 +1,13 @@
+-- `field_written::decimal::put_decimal` meets its contract.
+-- Assumes nothing.
 use native.Mathlib.Omega.{arith}
 use lib.ListN.{length-replicate}
 use Rattle.field_written.specs.Written.{minusIf}
 use Rattle.buffer.proofs.Splicing.{splice-then}
-use Rattle.field_written.proofs.Cases.{Counted, Showing, decimal-rest, decimal-shows}
+use Rattle.field_written.proofs.Cases.{Showing, decimal-rest, decimal-shows}
 use borrow.Author.Needs.{needs}
 use Rattle.field_written.proofs.decimal.put_decimal.Statement.{statement}
 use Rattle.field_written.proofs.decimal.put_decimal.Tie as tie
-use Rattle.field_written.proofs.decimal.put_decimal.Reads as reads
-use Rattle.field_written.proofs.decimal.put_decimal.Lts as lts
-use Rattle.buffer.proofs.fill.Reads as fill-reads
-use Rattle.field_written.proofs.columns.sign_width.Reads as sign-width-reads
-use Rattle.field_written.proofs.decimal.put_numeral.Reads as put-numeral-reads
-use Rattle.field_written.proofs.decimal.shown_digits.Reads as shown-digits-reads
-use Rattle.number.proofs.powers.power_of_ten.Reads as power-of-ten-reads
 
 -- the code's numbers show the field
 counted : (c : tie.After-shown-digits) → Showing (c .before .before .before .before .args .width) (minusIf (c .before .before .before .before .args .negative)) (c .before .before .before .before .args .d) (c .before .before .before .before .args .m) (c .before .sign-width .result) (c .before .before .power-of-ten .result) (c .shown-digits .result)

@@ -1,15 +1,11 @@
+-- `field_written::decimal::put_numeral` meets its contract.
+-- Assumes nothing.
 use native.Mathlib.Omega.{arith}
 use Rattle.number.proofs.DigitLaws.{length-digits}
 use Rattle.buffer.proofs.Splicing.{splice-then}
 use borrow.Author.Needs.{needs}
 use Rattle.field_written.proofs.decimal.put_numeral.Statement.{statement}
 use Rattle.field_written.proofs.decimal.put_numeral.Tie as tie
-use Rattle.field_written.proofs.decimal.put_numeral.Reads as reads
-use Rattle.field_written.proofs.decimal.put_numeral.Lts as lts
-use Rattle.buffer.proofs.fill.Reads as fill-reads
-use Rattle.field_written.proofs.columns.sign_width.Reads as sign-width-reads
-use Rattle.field_written.proofs.parts.put_digits.Reads as put-digits-reads
-use Rattle.field_written.proofs.parts.put_sign.Reads as put-sign-reads
 
 sign-width-requires : tie.Need-sign-width-requires
 sign-width-requires c κs = search needs

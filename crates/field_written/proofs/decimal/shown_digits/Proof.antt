@@ -1,8 +1,8 @@
+-- `field_written::decimal::shown_digits` meets its contract.
+-- Assumes nothing.
 use borrow.Author.Tests.{lt-ltb, le-ltb}
 use Rattle.field_written.proofs.decimal.shown_digits.Statement.{statement}
 use Rattle.field_written.proofs.decimal.shown_digits.Tie as tie
-use Rattle.field_written.proofs.decimal.shown_digits.Reads as reads
-use Rattle.field_written.proofs.decimal.shown_digits.Lts as lts
 
 returns : tie.Need-returns
 returns c = simp (lt-ltb _ _ (c .if1 .taken))

@@ -1,3 +1,5 @@
+-- `field_written::decimal::write_decimal` meets its contract.
+-- Assumes nothing.
 use mathlib.Core.Path.{_≡_, sym, _∙_}
 use native.Mathlib.Omega.{arith}
 use lib.IntN.{natAbs}
@@ -8,15 +10,6 @@ use Rattle.field_written.proofs.Answer.{decimal-starred, decimal-shown,
 use borrow.Author.Needs.{needs}
 use Rattle.field_written.proofs.decimal.write_decimal.Statement.{statement}
 use Rattle.field_written.proofs.decimal.write_decimal.Tie as tie
-use Rattle.field_written.proofs.decimal.write_decimal.Reads as reads
-use Rattle.field_written.proofs.decimal.write_decimal.Lts as lts
-use Rattle.buffer.proofs.fill.Reads as fill-reads
-use Rattle.field_written.proofs.columns.decimal_columns.Reads as decimal-columns-reads
-use Rattle.field_written.proofs.decimal.put_decimal.Reads as put-decimal-reads
-use Rattle.number.proofs.rounding.round.Reads as round-reads
-use Rattle.number.proofs.sign.is_negative.Reads as is-negative-reads
-use Rattle.number.proofs.sign.magnitude.Reads as magnitude-reads
-use Rattle.number.proofs.sign.stays_negative.Reads as stays-negative-reads
 
 -- what the callees say of the signed units, which reach them as bits
 negative-is : (c : tie.After-is-negative) → c .is-negative .result ≡ negative (c .before .before .args .units)

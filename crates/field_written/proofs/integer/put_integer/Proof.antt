@@ -1,3 +1,5 @@
+-- `field_written::integer::put_integer` meets its contract.
+-- Assumes nothing.
 use native.Mathlib.Omega.{arith}
 use lib.ListN.{length-replicate}
 use Rattle.buffer.proofs.Splicing.{splice-then}
@@ -5,12 +7,6 @@ use Rattle.field_written.proofs.Cases.{integer-digits, integer-shows}
 use borrow.Author.Needs.{needs}
 use Rattle.field_written.proofs.integer.put_integer.Statement.{statement}
 use Rattle.field_written.proofs.integer.put_integer.Tie as tie
-use Rattle.field_written.proofs.integer.put_integer.Reads as reads
-use Rattle.field_written.proofs.integer.put_integer.Lts as lts
-use Rattle.buffer.proofs.fill.Reads as fill-reads
-use Rattle.field_written.proofs.columns.sign_width.Reads as sign-width-reads
-use Rattle.field_written.proofs.parts.put_digits.Reads as put-digits-reads
-use Rattle.field_written.proofs.parts.put_sign.Reads as put-sign-reads
 
 sign-width-requires : tie.Need-sign-width-requires
 sign-width-requires c κs = search needs

@@ -1,3 +1,5 @@
+-- `field_written::integer::write_integer` meets its contract.
+-- Assumes nothing.
 use mathlib.Core.Path.{_≡_, ap, _∙_}
 use native.Mathlib.Omega.{arith}
 use lib.IntN.{natAbs}
@@ -9,13 +11,6 @@ use Rattle.field_written.proofs.Answer.{number-starred, number-shown}
 use borrow.Author.Needs.{needs}
 use Rattle.field_written.proofs.integer.write_integer.Statement.{statement}
 use Rattle.field_written.proofs.integer.write_integer.Tie as tie
-use Rattle.field_written.proofs.integer.write_integer.Reads as reads
-use Rattle.field_written.proofs.integer.write_integer.Lts as lts
-use Rattle.buffer.proofs.fill.Reads as fill-reads
-use Rattle.field_written.proofs.columns.integer_columns.Reads as integer-columns-reads
-use Rattle.field_written.proofs.integer.put_integer.Reads as put-integer-reads
-use Rattle.number.proofs.sign.is_negative.Reads as is-negative-reads
-use Rattle.number.proofs.sign.magnitude.Reads as magnitude-reads
 
 -- what the callees say of the signed number, which reaches them as bits
 negative-is : (c : tie.After-is-negative) → c .is-negative .result ≡ negative (c .before .before .args .n)

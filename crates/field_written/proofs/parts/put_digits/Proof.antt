@@ -1,11 +1,10 @@
+-- `field_written::parts::put_digits` meets its contract.
+-- Assumes nothing.
 use Prim.Native.Nat.{_-_}
 use native.Mathlib.Omega.{arith}
 use Rattle.field_written.proofs.Making.{Made, made-none, made-low, made-more, made-all}
 use Rattle.field_written.proofs.parts.put_digits.Statement.{statement}
 use Rattle.field_written.proofs.parts.put_digits.Tie as tie
-use Rattle.field_written.proofs.parts.put_digits.Reads as reads
-use Rattle.field_written.proofs.parts.put_digits.Lts as lts
-use Rattle.number.proofs.powers.power_of_ten.Reads as power-of-ten-reads
 
 abbrev Inv-loop : tie.InvT-loop
 Inv-loop dst₀ at k m rest₀ i₀ dst rest i = Made dst₀ at k m dst rest i

@@ -1,11 +1,11 @@
+-- `field_written::parts::put_sign` meets its contract.
+-- Assumes nothing.
 use mathlib.Core.Path.{sym}
 use native.Mathlib.Omega.{arith}
 use Rattle.buffer.proofs.Splicing.{splice-one, splice-nothing}
 use borrow.Author.Needs.{needs}
 use Rattle.field_written.proofs.parts.put_sign.Statement.{statement}
 use Rattle.field_written.proofs.parts.put_sign.Tie as tie
-use Rattle.field_written.proofs.parts.put_sign.Reads as reads
-use Rattle.field_written.proofs.parts.put_sign.Lts as lts
 
 slice-write-dst : tie.Need-slice-write-dst
 slice-write-dst c = omega (arith, rw (c .if1 .taken) at (c .before .pre))

@@ -1,12 +1,11 @@
+-- `number::digits::digit_count` meets its contract.
+-- Assumes nothing.
 use Prim.Native.Nat.{_≤_, _<_, _-_}
 use native.Mathlib.Omega.{arith}
 use Rattle.number.specs.Digits.{digitCount}
 use Rattle.number.proofs.DigitLaws.{digitCount-least, digitCount-pos, count-more, count-found}
 use Rattle.number.proofs.digits.digit_count.Statement.{statement}
 use Rattle.number.proofs.digits.digit_count.Tie as tie
-use Rattle.number.proofs.digits.digit_count.Reads as reads
-use Rattle.number.proofs.digits.digit_count.Lts as lts
-use Rattle.number.proofs.powers.power_of_ten.Reads as power-of-ten-reads
 
 abbrev Inv-loop : tie.InvT-loop
 Inv-loop m n₀ n = (0 < n) × (n ≤ 18) × (n ≤ digitCount m)

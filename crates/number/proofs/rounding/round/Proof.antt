@@ -1,11 +1,10 @@
+-- `number::rounding::round` meets its contract.
+-- Assumes nothing.
 use native.Mathlib.Omega.{arith}
 use Rattle.number.proofs.RoundingLaws.{nearest-up, nearest-down, answer-units, answer-large, times-small, times-large, down-small}
 use borrow.Author.Needs.{needs}
 use Rattle.number.proofs.rounding.round.Statement.{statement}
 use Rattle.number.proofs.rounding.round.Tie as tie
-use Rattle.number.proofs.rounding.round.Reads as reads
-use Rattle.number.proofs.rounding.round.Lts as lts
-use Rattle.number.proofs.powers.power_of_ten.Reads as power-of-ten-reads
 
 power-of-ten-requires : tie.Need-power-of-ten-requires
 power-of-ten-requires c κs = search needs
