@@ -47,7 +47,7 @@ pub splice-one : (d : List ℕ) (at v : ℕ) → at < length d → set d at v �
 unfolding splice
 splice-one d at v h = set-split d at v h ∙ rw (append-snoc, add-one)
 
--- ---- a loop that writes the list xs from place at on, from the front, one element a turn
+-- ---- a loop that writes the list xs from offset at on, from the front, one element a turn
 
 -- d is d₀ with the first i of the n elements of xs from at on
 pub record Written (d₀ : List ℕ) (at n : ℕ) (xs : List ℕ) (d : List ℕ) (i : ℕ) : Type 0 where

@@ -14,8 +14,8 @@ plusSign = 43
 abbrev pub minusSign : ℕ
 minusSign = 45
 
-abbrev pub pointSign : ℕ
-pointSign = 46
+abbrev pub decimalPoint : ℕ
+decimalPoint = 46
 
 abbrev pub digitZero : ℕ
 digitZero = 48

@@ -4,7 +4,7 @@ ghost use Prim.Native.Nat.{_+_, _≤_};
 ghost use lib.ListN.{length, replicate};
 ghost use Rattle.buffer.specs.Splice.{splice};
 
-// n bytes b from place at on.
+// n bytes b from offset at on.
 pub fn fill(dst: &mut [u8], at: usize, n: usize, b: u8)
     requires { ⌜ at + n ≤ length (now dst) ⌝ }
     ensures { λ r. ⌜ now (dst .exit) ≡ splice (now (dst .entry)) at (replicate n b) ⌝ }

@@ -9,7 +9,8 @@ use native.Mathlib.Omega.{arith}
 use borrow.Author.Tests.{ne-eqb, lt-ltb, le-leb, lt-leb, leb-true}
 use lib.Dec.{leb, eqb, ltb}
 use lib.ListN.{length}
-use Rattle.number.specs.Magnitude.{largest, withSign}
+use Rattle.number.specs.Limits.{largest}
+use Rattle.number.specs.Magnitude.{withSign}
 use Rattle.number.specs.Digits.{Digits, allDigits, value}
 use Rattle.number.proofs.PowerLaws.{ten-pos}
 use Rattle.number.proofs.DigitLaws.{value-append, all-digits}

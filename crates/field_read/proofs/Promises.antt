@@ -10,15 +10,16 @@ use borrow.Author.Tests.{ne-eqb, lt-ltb}
 use lib.ListN.{length, drop, replicate, length-append}
 use lib.IntN.{ℤ, natAbs}
 use Rattle.buffer.specs.Characters.{asterisk}
-use Rattle.number.specs.Magnitude.{largest, mostPlaces}
+use Rattle.number.specs.Limits.{largest, mostPlaces}
 use Rattle.number.specs.Digits.{Digits, value}
 use Rattle.number.specs.Rounding.{roundedUnits}
 use Rattle.number.proofs.DigitLaws.{digits-append}
-use Rattle.field_written.specs.Numeral.{Setting, Numeric, I, F, places, point, Sign, none, plus, minus, signBytes, signed, Numeral, characters}
+use Rattle.field_written.specs.Numeral.{Setting, Numeric, I, F, places, point, Sign, none, plus, minus, signBytes, signed, Numeral, characters, standsFor}
 use Rattle.field_written.specs.Written.{field, starred, decimalField, putRefusal, putStarred}
 use Rattle.field_written.proofs.Promises.{unstarred-is-numeral, Case, large, narrow-case, wide-case, case-of, clash, small-units}
-use Rattle.field_read.specs.Read.{unblanked, beforePoint, fromPoint, numberRead, placesRead, readDigits, readField, readRefusal, shownDecimal}
+use Rattle.field_read.specs.Read.{unblanked, beforePoint, fromPoint, numberRead, placesRead, readDigits, readField, readRefusal, readUnits, readPlaces, Gives, shownUnits, shownPlaces}
 use Rattle.field_read.specs.Promises.{NumeralReads, IntegerReadsBack, DecimalReadsBack, StarsRefused}
+use Rattle.field_read.specs.declared.FieldRead.{FieldRead}
 use Rattle.field_read.specs.declared.FieldRead.the-variants.{Number, Refused}
 use Rattle.field_read.proofs.Blanks.{unblanked-append, unblanked-blanks, unblanked-digits}
 use Rattle.field_read.proofs.Numbers.{number-good, number-bad, before-digits, before-other, from-digits, at-point}
@@ -88,17 +89,24 @@ sign-read f minus t r h e = read-some f t 45 r e
 
 -- ---- the promises
 
-pub numeral-reads : NumeralReads
-numeral-reads g f w t l h =
+numeral-read : (g : Setting) (f : Numeric) (w : ℕ) (t : Numeral g f w) → places f ≤ mostPlaces → natAbs (standsFor t) ≤ largest → readField f (characters t) ≡ Number (standsFor t) (places f)
+numeral-read g f w t l h =
     let m : value (t .whole ++ t .fraction) ≤ largest = rw (natAbs-signed (t .sign) (value (t .whole ++ t .fraction))) at h in
     sign-read f (t .sign) (characters t) _ (begins f (t .whole) (t .fraction) (t .whole-digits) (t .fraction-digits) (t .some)) (unblanked-numeral t)
     ∙ digits-read f (t .sign) (t .whole) (t .fraction) (t .whole-digits) (t .fraction-digits) (t .exactly) l (t .some) m
 
+gives : {r : FieldRead} {u : ℤ} {p : ℕ} → r ≡ Number u p → Gives r u p
+gives e = record { accepted = ap readRefusal e; units = ap readUnits e; places-read = ap readPlaces e }
+
+pub numeral-reads : NumeralReads
+numeral-reads g f w t l h = gives (numeral-read g f w t l h)
+
 -- a field that is not starred reads as its value
-unstarred-reads : (g : Setting) (f : Numeric) (w : ℕ) (n : ℤ) → places f ≤ mostPlaces → natAbs n ≤ largest → starred g f w n ≡ false → readField f (field g f w n) ≡ Number n (places f)
+unstarred-reads : (g : Setting) (f : Numeric) (w : ℕ) (n : ℤ) → places f ≤ mostPlaces → natAbs n ≤ largest → starred g f w n ≡ false → Gives (readField f (field g f w n)) n (places f)
 unstarred-reads g f w n l h e =
     let t = unstarred-is-numeral g f w n e in
-    rw (← t .1) (numeral-reads g f w (t .0) l (rw (t .2) h) ∙ rw (t .2))
+    let v = t .2 .stands in
+    rw (← t .1) (gives (numeral-read g f w (t .0) l (rw v h) ∙ rw v))
 
 pub integer-reads-back : IntegerReadsBack
 integer-reads-back g w n h e = unstarred-reads g I w n (omega arith) h e
@@ -106,7 +114,7 @@ integer-reads-back g w n h e = unstarred-reads g I w n (omega arith) h e
 pub decimal-reads-back : DecimalReadsBack
 decimal-reads-back g w d u s l r k = go (case-of g w d u s)
   where
-    go : Case g w d u s → readField (F d) (decimalField g w d u s) ≡ shownDecimal u s d
+    go : Case g w d u s → Gives (readField (F d) (decimalField g w d u s)) (shownUnits u s d) (shownPlaces u s d)
     go (large p e) = clash putRefusal e r (λ z. omega arith)
     go (narrow-case p q e) = clash putStarred e k (λ z. omega arith)
     go (wide-case p q e) = unstarred-reads g (F d) w (roundedUnits u s d) l (small-units u s d p) q

@@ -7,7 +7,7 @@ use native.Mathlib.Nat.{pow-suc}
 use native.Mathlib.Numerals.{add-one}
 use native.Mathlib.Omega.{arith}
 use lib.ListN.{length, drop, getD, length-append}
-use Rattle.number.specs.Magnitude.{largest}
+use Rattle.number.specs.Limits.{largest}
 use Rattle.number.specs.Digits.{Digits, value}
 use Rattle.number.proofs.DigitLaws.{value-append, digits-append}
 use Rattle.field_read.specs.Read.{unblanked}

@@ -6,26 +6,25 @@ use Prim.Native.Nat.{ℕ, _<_, _≤_}
 use lib.ListN.{replicate}
 use lib.IntN.{ℤ, natAbs}
 use Rattle.buffer.specs.Characters.{asterisk}
-use Rattle.number.specs.Magnitude.{largest, mostPlaces}
+use Rattle.number.specs.Limits.{largest, mostPlaces}
 use Rattle.field_written.specs.Numeral.{Setting, Numeric, I, F, places, Numeral, characters, standsFor}
 use Rattle.field_written.specs.Written.{field, starred, decimalField, putDecimal, putRefusal, putStarred}
-use Rattle.field_read.specs.Read.{readField, readRefusal, shownInteger, shownDecimal}
-use Rattle.field_read.specs.declared.FieldRead.the-variants.{Number}
+use Rattle.field_read.specs.Read.{readField, readRefusal, Gives, shownInteger, shownUnits, shownPlaces}
 
 -- every numeral of width w, within the limits, reads back as the number that it stands for, under F with d places
 abbrev pub NumeralReads : Type 0
 NumeralReads =
-    (g : Setting) (f : Numeric) (w : ℕ) (t : Numeral g f w) → places f ≤ mostPlaces → natAbs (standsFor t) ≤ largest → readField f (characters t) ≡ Number (standsFor t) (places f)
+    (g : Setting) (f : Numeric) (w : ℕ) (t : Numeral g f w) → places f ≤ mostPlaces → natAbs (standsFor t) ≤ largest → Gives (readField f (characters t)) (standsFor t) (places f)
 
 -- an integer's field that is not starred reads back as the shown value
 abbrev pub IntegerReadsBack : Type 0
 IntegerReadsBack =
-    (g : Setting) (w : ℕ) (n : ℤ) → natAbs n ≤ largest → starred g I w n ≡ false → readField I (field g I w n) ≡ shownInteger n
+    (g : Setting) (w : ℕ) (n : ℤ) → natAbs n ≤ largest → starred g I w n ≡ false → Gives (readField I (field g I w n)) (shownInteger n) 0
 
 -- and so does the field of a decimal u / 10^s under Fw.d that is neither refused nor starred
 abbrev pub DecimalReadsBack : Type 0
 DecimalReadsBack =
-    (g : Setting) (w d : ℕ) (u : ℤ) (s : ℕ) → d ≤ mostPlaces → putRefusal (putDecimal g w d u s) ≡ 0 → putStarred (putDecimal g w d u s) ≡ 0 → readField (F d) (decimalField g w d u s) ≡ shownDecimal u s d
+    (g : Setting) (w d : ℕ) (u : ℤ) (s : ℕ) → d ≤ mostPlaces → putRefusal (putDecimal g w d u s) ≡ 0 → putStarred (putDecimal g w d u s) ≡ 0 → Gives (readField (F d) (decimalField g w d u s)) (shownUnits u s d) (shownPlaces u s d)
 
 -- w asterisks are refusal 12
 abbrev pub StarsRefused : Type 0

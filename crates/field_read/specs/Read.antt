@@ -1,13 +1,14 @@
 -- Document 01, 'Fields read': I and F, and the shown value.
 -- Assumes nothing.
+use mathlib.Core.Path.{_≡_}
 use mathlib.Core.Bool.{_&&_, cond}
 use mathlib.Core.List.{List, [], _∷_, _++_}
 use Prim.Native.Nat.{ℕ}
 use lib.Dec.{ltb, leb, eqb}
 use lib.ListN.{length, drop}
 use lib.IntN.{ℤ, pos}
-use Rattle.buffer.specs.Characters.{blank, plusSign, minusSign, pointSign}
-use Rattle.number.specs.Magnitude.{largest, mostPlaces}
+use Rattle.buffer.specs.Characters.{blank, plusSign, minusSign, decimalPoint}
+use Rattle.number.specs.Limits.{largest, mostPlaces}
 use Rattle.number.specs.Digits.{allDigits, value}
 use Rattle.number.specs.Rounding.{roundedUnits}
 use Rattle.field_written.specs.Numeral.{Numeric, I, F, places, Sign, none, plus, minus, signBytes, signed}
@@ -30,12 +31,12 @@ afterSign t = drop (length (signBytes (signOf t))) t
 -- what stands before the first point
 unfoldable pub beforePoint : List ℕ → List ℕ
 beforePoint [] = []
-beforePoint (x ∷ xs) = cond (eqb x pointSign) [] (x ∷ beforePoint xs)
+beforePoint (x ∷ xs) = cond (eqb x decimalPoint) [] (x ∷ beforePoint xs)
 
 -- the first point and what stands after it; nothing without a point
 unfoldable pub fromPoint : List ℕ → List ℕ
 fromPoint [] = []
-fromPoint (x ∷ xs) = cond (eqb x pointSign) (x ∷ xs) (fromPoint xs)
+fromPoint (x ∷ xs) = cond (eqb x decimalPoint) (x ∷ xs) (fromPoint xs)
 
 -- the number with p places that the digits before and after a point make: 'at least one digit', the count after the
 -- point 'at most 9', 'magnitude of n or units at most 10^18 − 1'; else it is refused
@@ -59,17 +60,34 @@ readField f t =
     cond (eqb (length (unblanked t)) 0) (Number (pos 0) (places f))
     (readDigits f (signOf (unblanked t)) (afterSign (unblanked t)))
 
--- what an answer means: the refusal's number in 'Checks by place', 0 for none
+-- what an answer means: the refusal's number in 'Checks by place', 0 for none, and the units and places read, 0 for none
 abbrev pub readRefusal : FieldRead → ℕ
 readRefusal (Number u p) = 0
 readRefusal Refused = 12
 
--- ---- Term 'shown value', as it is read: units and places, 0 places for an integer
+abbrev pub readUnits : FieldRead → ℤ
+readUnits (Number u p) = u
+readUnits Refused = pos 0
+
+abbrev pub readPlaces : FieldRead → ℕ
+readPlaces (Number u p) = p
+readPlaces Refused = 0
+
+-- an answer that is not refused gives these units and places
+pub record Gives (r : FieldRead) (u : ℤ) (p : ℕ) : Type 0 where
+  pub accepted : readRefusal r ≡ 0
+  pub units : readUnits r ≡ u
+  pub places-read : readPlaces r ≡ p
+
+-- ---- Term 'shown value'
 
 -- 'integer .. unchanged'
-abbrev pub shownInteger : ℤ → FieldRead
-shownInteger n = Number n 0
+abbrev pub shownInteger : ℤ → ℤ
+shownInteger n = n
 
--- 'decimal as rounded, with d places', of u / 10^s
-abbrev pub shownDecimal : ℤ → ℕ → ℕ → FieldRead
-shownDecimal u s d = Number (roundedUnits u s d) d
+-- 'decimal as rounded, with d places', of u / 10^s: its units, and its places
+abbrev pub shownUnits : ℤ → ℕ → ℕ → ℤ
+shownUnits u s d = roundedUnits u s d
+
+abbrev pub shownPlaces : ℤ → ℕ → ℕ → ℕ
+shownPlaces u s d = d

@@ -7,7 +7,7 @@ use mathlib.Core.List.{List, [], _++_}
 use Prim.Native.Nat.{ℕ, _+_, _*_, _^_, _<_, _≤_}
 use lib.ListN.{length, drop, getD}
 use Rattle.buffer.specs.Characters.{blank, digitZero, digitNine}
-use Rattle.number.specs.Magnitude.{largest}
+use Rattle.number.specs.Limits.{largest}
 use Rattle.number.specs.Digits.{Digits, value}
 use Rattle.field_written.specs.Numeral.{Sign, none, plus, minus}
 use Rattle.field_read.specs.Read.{unblanked, signOf, afterSign}
@@ -16,7 +16,7 @@ use Rattle.field_read.specs.declared.Front.the-variants.{Nothing, Found}
 use Rattle.field_read.specs.declared.Run.{Run}
 use Rattle.field_read.specs.declared.Run.the-variants as run
 
--- the first place that is not blank; the length where all are
+-- the first offset that is not blank; the length where all are
 pub record Skipped (s : List ℕ) (to : ℕ) : Type 0 where
   pub past : to ≤ length s
   pub same : unblanked s ≡ unblanked (drop to s)
@@ -27,19 +27,19 @@ isMinus none = false
 isMinus plus = false
 isMinus minus = true
 
--- something is left of s without its blanks: a minus or none, and what follows the sign starts at `from`
-pub record Signed (s : List ℕ) (below : Bool) (from : ℕ) : Type 0 where
+-- something is left of s without its blanks: a minus or none, and what follows the sign stands from `from` on, blanks aside
+pub record Signed (s : List ℕ) (minus-read : Bool) (from : ℕ) : Type 0 where
   pub past : from ≤ length s
   pub some : 0 < length (unblanked s)
-  pub sign : below ≡ isMinus (signOf (unblanked s))
+  pub sign : minus-read ≡ isMinus (signOf (unblanked s))
   pub rest : afterSign (unblanked s) ≡ unblanked (drop from s)
 
 abbrev pub FrontIs : List ℕ → Front → Type 0
 FrontIs s Nothing = unblanked s ≡ []
-FrontIs s (Found below from) = Signed s below from
+FrontIs s (Found m from) = Signed s m from
 
 -- from `from` on stand `count` digits, blanks among them, which after the number v make the number m; at `next` stands
--- something else, or s ends. (There are no more digits than places, so that `count` does not overflow.)
+-- something else, or s ends. (`fewer`: so that `count` does not overflow.)
 pub record Ran (s : List ℕ) (from v m count next : ℕ) : Type 0 where
   pub digits : List ℕ
   pub all : Digits digits

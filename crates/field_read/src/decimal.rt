@@ -2,9 +2,10 @@
 use crate::FieldRead;
 use crate::Front;
 use crate::Run;
-use crate::digits::number_of;
+use crate::answer::number_of;
 use crate::digits::read_run;
 use crate::leading::read_front;
+use number::MOST_PLACES;
 ghost use mathlib.Core.Path.{_≡_};
 ghost use Prim.Native.Nat.{_≤_};
 ghost use lib.ListN.{length, drop};
@@ -13,14 +14,14 @@ ghost use Rattle.field_written.specs.Written.{minusIf};
 ghost use Rattle.field_read.specs.Read.{unblanked, readDigits, readField};
 
 // The digits of a decimal, with a point or d places, from `from` on.
-fn read_units(part: &[u8], from: usize, below: bool, d: usize) -> FieldRead
+fn read_units(part: &[u8], from: usize, minus: bool, d: usize) -> FieldRead
     requires { ⌜ from ≤ length (now part) ⌝ }
-    ensures { λ r. ⌜ r ≡ readDigits (F d) (minusIf below) (unblanked (drop from (now (part .entry)))) ⌝ }
+    ensures { λ r. ⌜ r ≡ readDigits (F d) (minusIf minus) (unblanked (drop from (now (part .entry)))) ⌝ }
 {
     match read_run(part, from, 0) {
         Run::Digits { value, count, next } => {
             if part.len() <= next {
-                return number_of(count, below, value, d);
+                return number_of(count, minus, value, d);
             }
             if part[next] != b'.' {
                 return FieldRead::Refused;
@@ -34,10 +35,10 @@ fn read_units(part: &[u8], from: usize, below: bool, d: usize) -> FieldRead
                     if end < part.len() {
                         return FieldRead::Refused;
                     }
-                    if 9 < places {
+                    if MOST_PLACES < places {
                         return FieldRead::Refused;
                     }
-                    number_of(count + places, below, units, places)
+                    number_of(count + places, minus, units, places)
                 }
                 Run::TooLarge => FieldRead::Refused,
             }
@@ -55,6 +56,6 @@ pub fn read_decimal(part: &[u8], d: usize) -> FieldRead
             units: 0,
             places: d,
         },
-        Front::Found { below, from } => read_units(part, from, below, d),
+        Front::Found { minus, from } => read_units(part, from, minus, d),
     }
 }

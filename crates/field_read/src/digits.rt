@@ -1,15 +1,13 @@
-// A run of digits, and the number that is read.
-use crate::FieldRead;
+// A run of digits.
 use crate::Run;
 use number::LARGEST;
 ghost use mathlib.Core.Path.{_≡_};
-ghost use mathlib.Core.Bool.{cond};
 ghost use Prim.Native.Nat.{_≤_};
-ghost use lib.Dec.{eqb};
 ghost use lib.ListN.{length};
-ghost use Rattle.number.specs.Magnitude.{largest, withSign};
+ghost use Rattle.number.specs.Limits.{largest};
 ghost use Rattle.field_read.specs.Steps.{RunIs};
 
+// A byte as a u64; a cast of an element would ask for a proof at each use.
 fn wide(b: u8) -> u64
     ensures { λ r. ⌜ r ≡ b ⌝ }
 {
@@ -55,19 +53,5 @@ pub fn read_run(part: &[u8], from: usize, v: u64) -> Run
         value,
         count,
         next: i,
-    }
-}
-
-// The number m with its sign, made by `count` digits; without a digit there is no number.
-pub fn number_of(count: usize, below: bool, m: u64, places: usize) -> FieldRead
-    requires { ⌜ m ≤ largest ⌝ }
-    ensures { λ r. ⌜ r ≡ cond (eqb count 0) FieldRead.Refused (FieldRead.Number (withSign below m) places) ⌝ }
-{
-    if count == 0 {
-        return FieldRead::Refused;
-    }
-    FieldRead::Number {
-        units: number::sign::with_sign(below, m),
-        places,
     }
 }

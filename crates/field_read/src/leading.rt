@@ -2,7 +2,7 @@
 use crate::Front;
 ghost use Rattle.field_read.specs.Steps.{Skipped, FrontIs};
 
-// The first place that is not blank.
+// The first offset that is not blank.
 fn skip_blanks(part: &[u8]) -> usize
     ensures { λ r. ⌜ Skipped (now (part .entry)) r ⌝ }
 {
@@ -16,7 +16,7 @@ fn skip_blanks(part: &[u8]) -> usize
     i
 }
 
-// The sign, where there is one, and the place after it.
+// The sign, where there is one, and the offset after it.
 pub fn read_front(part: &[u8]) -> Front
     ensures { λ r. ⌜ FrontIs (now (part .entry)) r ⌝ }
 {
@@ -27,18 +27,18 @@ pub fn read_front(part: &[u8]) -> Front
     let b = part[at];
     if b == b'+' {
         return Front::Found {
-            below: false,
+            minus: false,
             from: at + 1,
         };
     }
     if b == b'-' {
         return Front::Found {
-            below: true,
+            minus: true,
             from: at + 1,
         };
     }
     Front::Found {
-        below: false,
+        minus: false,
         from: at,
     }
 }

@@ -1,4 +1,5 @@
 // Numeric fields read: integers under Iw, decimals under Fw.d.
+mod answer;
 pub mod decimal;
 mod digits;
 pub mod integer;
@@ -10,13 +11,13 @@ pub enum FieldRead {
     Refused,
 }
 
-// What stands before the digits of a field: nothing but blanks, or a sign or none, and the place after it.
+// A field that is all blank; or whether a minus stands in front, and the offset after the sign.
 enum Front {
     Nothing,
-    Found { below: bool, from: usize },
+    Found { minus: bool, from: usize },
 }
 
-// A run of digits: the number that they make, how many they are, and the place after them.
+// A run of digits: the number that they make, how many they are, and the offset after them.
 enum Run {
     Digits {
         value: u64,

@@ -9,7 +9,8 @@ use lib.ListN.{replicate}
 use lib.IntN.{ℤ, natAbs}
 use Rattle.buffer.specs.Characters.{asterisk}
 use Rattle.buffer.specs.Splice.{splice}
-use Rattle.number.specs.Magnitude.{largest, negative, withSign}
+use Rattle.number.specs.Limits.{largest}
+use Rattle.number.specs.Magnitude.{negative, withSign}
 use Rattle.number.specs.Rounding.{roundedMagnitude, roundedUnits, tooLarge, roundingAnswer}
 use Rattle.number.specs.declared.Rounded.the-variants.{Units, TooLarge}
 use Rattle.number.proofs.RoundingLaws.{units-of, large-of}

@@ -10,7 +10,7 @@ use borrow.Author.Tests.{le-leb, lt-leb, ltb-true, ltb-false}
 use lib.Dec.{ltb}
 use lib.ListN.{length, replicate, length-append}
 use Rattle.buffer.specs.Characters.{blank, asterisk}
-use Rattle.number.specs.Magnitude.{largest}
+use Rattle.number.specs.Limits.{largest}
 use Rattle.number.specs.Digits.{digitsOf, digitCount}
 use Rattle.number.proofs.PowerLaws.{ten-pos}
 use Rattle.number.proofs.DigitLaws.{length-digits, digits-cut, digitCount-least, digitCount-holds, digitCount-pos}

@@ -1,6 +1,6 @@
 -- The digits before the point: how many hold the integer part.
 -- Assumes nothing.
-use mathlib.Core.Path.{_≡_, refl}
+use mathlib.Core.Path.{_≡_, refl, ap}
 use mathlib.Core.Bool.{Bool, true, false}
 use Prim.Native.Nat.{ℕ, zero, suc, _+_, _-_, _/_, _^_, _<_, _≤_}
 use native.Mathlib.Nat.{div-eq-of-lt, div-lt-iff-lt-mul, div-one, lt-of-lt-of-le}
@@ -8,7 +8,7 @@ use native.Mathlib.Omega.{arith}
 use lib.Pow.{pow-add}
 use borrow.Author.Tests.{ltb-true, ltb-false, eqb-true, eqb-false}
 use lib.Dec.{ltb, eqb}
-use Rattle.number.specs.Digits.{digitCount, countUpTo}
+use Rattle.number.specs.Digits.{digitCount, countDigits}
 use Rattle.number.proofs.PowerLaws.{ten-pos, ten-le, ten-split}
 use Rattle.number.proofs.DigitLaws.{digitCount-least, digitCount-holds, digitCount-pos}
 use Rattle.field_written.specs.Numeral.{Numeric, I, F, places}
@@ -21,6 +21,11 @@ wholePart f m = m / 10 ^ places f
 pub most-holds : (f : Numeric) (m : ℕ) → wholePart f m < 10 ^ mostDigits f m
 unfolding mostDigits
 most-holds f m = digitCount-holds (wholePart f m)
+
+-- as many as a number of that value has
+pub most-as : (f : Numeric) (m : ℕ) {v : ℕ} → v ≡ wholePart f m → digitCount v ≡ mostDigits f m
+unfolding mostDigits
+most-as f m e = ap digitCount e
 
 pub most-pos : (f : Numeric) (m : ℕ) → 0 < mostDigits f m
 unfolding mostDigits
@@ -71,15 +76,18 @@ fewest-least f m (suc k) h g = omega (arith, fewest-most f m, digitCount-least (
 -- ---- where the zero is left out, and where not
 
 digitCount-zero : digitCount 0 ≡ 1
-unfolding digitCount countUpTo
+unfolding digitCount countDigits
 digitCount-zero = refl
 
-pub most-zero : (f : Numeric) (m : ℕ) → fewestDigits f m ≡ 0 → mostDigits f m ≡ 1
+pub most-of-zero : (f : Numeric) (m : ℕ) → wholePart f m ≡ 0 → mostDigits f m ≡ 1
 unfolding mostDigits
+most-of-zero f m q = rw q digitCount-zero
+
+pub most-zero : (f : Numeric) (m : ℕ) → fewestDigits f m ≡ 0 → mostDigits f m ≡ 1
 most-zero f m z = go (fewest-cases f m)
   where
     go : Fewest f m → mostDigits f m ≡ 1
-    go (gone e q p) = rw q digitCount-zero
+    go (gone e q p) = most-of-zero f m q
     go (kept e k) = absurd (omega (arith, most-pos f m))
 
 pub most-some : (f : Numeric) (m : ℕ) → 0 < fewestDigits f m → fewestDigits f m ≡ mostDigits f m

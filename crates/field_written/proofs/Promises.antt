@@ -1,31 +1,31 @@
 -- The promises of specs/Promises.antt.
 -- Assumes nothing.
-use mathlib.Core.Path.{_≡_, refl, sym, ap, _∙_}
+use mathlib.Core.Path.{_≡_, refl, sym, ap, _∙_, subst}
 use mathlib.Core.Logic.{_↔_}
 use mathlib.Core.Bool.{Bool, true, false}
 use mathlib.Core.List.{List, [], _∷_, _++_}
-use Prim.Native.Nat.{ℕ, zero, suc, _+_, _-_, _*_, _^_, _≤_, _<_}
-use native.Mathlib.Decide.{decLe}
+use Prim.Native.Nat.{ℕ, zero, suc, _+_, _-_, _*_, _^_, _≤_, _<_, _%_}
+use native.Mathlib.Decide.{decLe, ℕ-discrete}
 use native.Mathlib.Nat.{mod-eq-of-lt, div-add-mod'}
 use native.Mathlib.Omega.{arith}
 use borrow.Author.Tests.{ltb-true, ltb-false}
-use lib.Arith.{digits-div}
+use lib.Arith.{digits-div, digits-mod}
 use lib.ListN.{length, getD, replicate, length-append, length-replicate, getD-replicate}
 use lib.Seq.{getD-append-add}
 use lib.IntN.{ℤ, pos, negsuc, natAbs}
-use Rattle.buffer.specs.Characters.{blank, asterisk}
+use Rattle.buffer.specs.Characters.{blank, asterisk, digitZero}
 use Rattle.buffer.specs.Splice.{splice}
-use Rattle.number.specs.Magnitude.{largest}
+use Rattle.number.specs.Limits.{largest}
 use Rattle.number.specs.Digits.{Digits, value, digitsOf}
 use Rattle.number.specs.Rounding.{Nearest, roundedUnits, tooLarge}
 use Rattle.number.proofs.RoundingLaws.{rounded-is}
-use Rattle.number.proofs.DigitLaws.{length-digits, digits-are, value-digits, value-below, value-append}
-use Rattle.field_written.specs.Numeral.{Numeric, I, F, places, point, Sign, none, plus, minus, signBytes, signed, Setting, plain, Permitted, Numeral, characters, standsFor}
+use Rattle.number.proofs.DigitLaws.{length-digits, digits-are, value-digits, value-below, value-append, no-zero, digits-cut, digits-unique, digits-exact}
+use Rattle.field_written.specs.Numeral.{Numeric, I, F, places, point, Sign, none, plus, minus, signBytes, signed, layout, Setting, plain, Permitted, Numeral, characters, standsFor}
 use Rattle.field_written.specs.Written.{signFor, mostDigits, fewestDigits, numeralText, fieldText, fewestColumns, field, starred, putDecimal, afterDecimal, putRefusal, putStarred}
-use Rattle.field_written.specs.Promises.{FieldLength, StarredIs, StarsExactlyWhen, UnstarredIsNumeral, DecimalRefusedWhen, DecimalRefusedLeaves, DecimalStarsExactlyWhen, DecimalStarred, DecimalShown}
+use Rattle.field_written.specs.Promises.{FieldLength, StarredIs, StarsExactlyWhen, AsWritten, UnstarredIsNumeral, FieldOnly, DecimalRefusedWhen, DecimalRefusedLeaves, DecimalStarsExactlyWhen, DecimalStarred, DecimalShown}
 use Rattle.field_written.specs.declared.Put.{Put}
 use Rattle.field_written.specs.declared.Put.the-variants as put
-use Rattle.field_written.proofs.Fewest.{wholePart, most-holds, most-pos, fewest-holds, fewest-least}
+use Rattle.field_written.proofs.Fewest.{wholePart, Fewest, gone, kept, fewest-cases, most-zero, most-of-zero, most-as, most-holds, most-pos, fewest-holds, fewest-least}
 use Rattle.field_written.proofs.Cases.{beside, length-numeral, shownText, columns-are, stars, with-most, with-fewest}
 
 -- ---- signs
@@ -35,8 +35,8 @@ stands-as : (g : Setting) (n : ℤ) → signed (signFor g n) (natAbs n) ≡ n
 stands-as plain (pos m) = refl
 stands-as plain (negsuc m) = refl
 
-permits : (g : Setting) (n : ℤ) (m : ℕ) → Permitted g (signFor g n) m
-permits plain n m = tt
+permits : (g : Setting) (n : ℤ) (x y : List ℕ) → Permitted g (signFor g n) x y
+permits plain n x y = tt
 
 -- any sign that makes n is as long at least
 sign-needed : (g : Setting) (n : ℤ) (s : Sign) (v : ℕ) → signed s v ≡ n → (natAbs n ≡ v) × (length (signBytes (signFor g n)) ≤ length (signBytes s))
@@ -55,28 +55,6 @@ value-numeral f k m h =
 length-shown : (f : Numeric) (w : ℕ) (s : Sign) (k m : ℕ) → beside f s + k ≤ w → length (shownText f w s k m) ≡ w
 length-shown f w s k m h = simp (length-append, length-replicate, length-numeral) (omega arith)
 
--- k digits before the point, blanks up to the width, and the rest make a numeral
-numeral-stands : (g : Setting) (f : Numeric) (w : ℕ) (n : ℤ) (k : ℕ) → wholePart f (natAbs n) < 10 ^ k → 0 < k + places f → beside f (signFor g n) + k ≤ w → (t : Numeral g f w) × (characters t ≡ shownText f w (signFor g n) k (natAbs n)) × (standsFor t ≡ n)
-unfolding numeralText
-numeral-stands g f w n k h l r =
-    let m : ℕ = natAbs n in
-    let s : Sign = signFor g n in (
-      record {
-        blanks = w - beside f s - k;
-        sign = s;
-        whole = digitsOf k (wholePart f m);
-        fraction = digitsOf (places f) m;
-        whole-digits = digits-are k (wholePart f m);
-        fraction-digits = digits-are (places f) m;
-        exactly = length-digits (places f) m;
-        some = rw (length-digits k (wholePart f m), length-digits (places f) m) l;
-        permitted = permits g n _;
-        width = length-shown f w s k m r;
-      },
-      refl,
-      rw (value-numeral f k m h) (stands-as g n),
-    )
-
 module _ (g : Setting) (f : Numeric) (w : ℕ) (n : ℤ) where
   fits : starred g f w n ≡ false → beside f (signFor g n) + fewestDigits f (natAbs n) ≤ w
   unfolding starred
@@ -86,33 +64,117 @@ module _ (g : Setting) (f : Numeric) (w : ℕ) (n : ℤ) where
   unfolding starred
   narrow e = ltb-true w (fewestColumns f (signFor g n) (natAbs n)) e
 
-  -- the digits before the point that the field shows
-  shown-digits : starred g f w n ≡ false → (k : ℕ) × (wholePart f (natAbs n) < 10 ^ k) × (0 < k + places f) × (beside f (signFor g n) + k ≤ w) × (fieldText f w (signFor g n) (natAbs n) ≡ shownText f w (signFor g n) k (natAbs n))
-  shown-digits e =
-      let m : ℕ = natAbs n in
-      let s : Sign = signFor g n in
-      elim (decLe (beside f s + mostDigits f m) w) [
-        | yes h ↦ (mostDigits f m, most-holds f m, omega (arith, most-pos f m), h, with-most f w s m refl h)
-        | no h ↦ (fewestDigits f m, fewest-holds f m .0, fewest-holds f m .1, fits e, with-fewest f w s m refl (fits e) (omega arith))
-      ]
+-- the digits before the point that a field shows
+record Shown (f : Numeric) (w : ℕ) (s : Sign) (m : ℕ) : Type 0 where
+  k : ℕ
+  holds : wholePart f m < 10 ^ k
+  some : 0 < k + places f
+  room : beside f s + k ≤ w
+  is : fieldText f w s m ≡ shownText f w s k m
+  no-lead : (rest : List ℕ) → digitsOf k (wholePart f m) ≡ digitZero ∷ rest → rest ≡ []
+  free : k ≡ 0 → w - beside f s - k ≡ 0
 
+-- they have no zero in front, but that of an integer part 0
+most-lead : (f : Numeric) (m : ℕ) (rest : List ℕ) → digitsOf (mostDigits f m) (wholePart f m) ≡ digitZero ∷ rest → rest ≡ []
+unfolding mostDigits
+most-lead f m rest e = no-zero (wholePart f m) rest e
+
+fewest-lead : (f : Numeric) (m : ℕ) (rest : List ℕ) → digitsOf (fewestDigits f m) (wholePart f m) ≡ digitZero ∷ rest → rest ≡ []
+unfolding digitsOf
+fewest-lead f m rest e = go (fewest-cases f m)
+  where
+    go : Fewest f m → rest ≡ []
+    go (gone z q p) =
+        let h : [] ≡ digitZero ∷ rest = ap (λ (k : ℕ). digitsOf k (wholePart f m)) (sym z) ∙ e in
+        let y : _≡_ {A = ℕ} 0 1 = cc in
+        absurd (omega arith)
+    go (kept q k) = most-lead f m rest (ap (λ (k : ℕ). digitsOf k (wholePart f m)) (sym q) ∙ e)
+
+shown : (g : Setting) (f : Numeric) (w : ℕ) (n : ℤ) → starred g f w n ≡ false → Shown f w (signFor g n) (natAbs n)
+shown g f w n e =
+    let m : ℕ = natAbs n in
+    let s : Sign = signFor g n in
+    elim (decLe (beside f s + mostDigits f m) w) [
+      | yes h ↦
+          record {
+            k = mostDigits f m;
+            holds = most-holds f m;
+            some = omega (arith, most-pos f m);
+            room = h;
+            is = with-most f w s m refl h;
+            no-lead = most-lead f m;
+            free = λ z. omega (arith, most-pos f m);
+          }
+      | no h ↦
+          record {
+            k = fewestDigits f m;
+            holds = fewest-holds f m .0;
+            some = fewest-holds f m .1;
+            room = fits g f w n e;
+            is = with-fewest f w s m refl (fits g f w n e) (omega arith);
+            no-lead = fewest-lead f m;
+            free = λ z. omega (arith, most-zero f m z);
+          }
+    ]
+
+-- with blanks up to the width they make a numeral as document 01 has it
 pub unstarred-is-numeral : UnstarredIsNumeral
-unfolding field
+unfolding field numeralText
 unstarred-is-numeral g f w n e =
-    let d = shown-digits g f w n e in
-    let t = numeral-stands g f w n (d .0) (d .1) (d .2) (d .3) in
-    (t .0, t .1 ∙ sym (d .4), t .2)
+    let m : ℕ = natAbs n in
+    let s : Sign = signFor g n in
+    let d = shown g f w n e in
+    let k : ℕ = d .k in
+    let whole : List ℕ = digitsOf k (wholePart f m) in (
+      record {
+        blanks = w - beside f s - k;
+        sign = s;
+        whole = whole;
+        fraction = digitsOf (places f) m;
+        whole-digits = digits-are k (wholePart f m);
+        fraction-digits = digits-are (places f) m;
+        exactly = length-digits (places f) m;
+        some = rw (length-digits k (wholePart f m), length-digits (places f) m) (d .some);
+        permitted = permits g n whole (digitsOf (places f) m);
+        width = length-shown f w s k m (d .room);
+      },
+      sym (d .is),
+      record {
+        stands = rw (value-numeral f k m (d .holds)) (stands-as g n);
+        signed-so = refl;
+        no-leading-zero = d .no-lead;
+        zero-if-free = λ z. d .free (sym (length-digits k (wholePart f m)) ∙ ap length z);
+      },
+    )
+
+-- ---- the parts of a numeral
+
+-- by the magnitude that it stands for
+record Parts (g : Setting) (f : Numeric) (w : ℕ) (m : ℕ) (t : Numeral g f w) : Type 0 where
+  whole-value : value (t .whole) ≡ wholePart f m
+  whole-is : t .whole ≡ digitsOf (length (t .whole)) (wholePart f m)
+  fraction-is : t .fraction ≡ digitsOf (places f) m
+
+parts : {g : Setting} {f : Numeric} {w : ℕ} (m : ℕ) (t : Numeral g f w) → m ≡ value (t .whole ++ t .fraction) → Parts g f w m t
+parts {g} {f} {w} m t e =
+    let low : value (t .fraction) < 10 ^ places f = rw (← t .exactly) (value-below (t .fraction) (t .fraction-digits)) in
+    let v : m ≡ value (t .whole) * 10 ^ places f + value (t .fraction) = e ∙ value-append (t .whole) (t .fraction) ∙ rw (t .exactly) in
+    let q : wholePart f m ≡ value (t .whole) = rw v (digits-div (value (t .whole)) low) in
+    let r : m % 10 ^ places f ≡ value (t .fraction) = rw v (digits-mod (value (t .whole)) low) in
+    record {
+      whole-value = sym q;
+      whole-is = sym (rw q (digits-unique (t .whole) (t .whole-digits)));
+      fraction-is = sym (sym (digits-cut (places f) m) ∙ rw (r, ← t .exactly) (digits-unique (t .fraction) (t .fraction-digits)));
+    }
 
 -- ---- every numeral is as long as the shortest at least
 
-longest : {g : Setting} {f : Numeric} {w : ℕ} (n : ℤ) (t : Numeral g f w) → standsFor t ≡ n → fewestColumns f (signFor g n) (natAbs n) ≤ w
+no-shorter : {g : Setting} {f : Numeric} {w : ℕ} (n : ℤ) (t : Numeral g f w) → standsFor t ≡ n → fewestColumns f (signFor g n) (natAbs n) ≤ w
 unfolding beside
-longest {g} {f} {w} n t e =
+no-shorter {g} {f} {w} n t e =
     let m : ℕ = natAbs n in
     let s = sign-needed g n (t .sign) (value (t .whole ++ t .fraction)) e in
-    let low : value (t .fraction) < 10 ^ places f = rw (← t .exactly) (value-below (t .fraction) (t .fraction-digits)) in
-    let v : m ≡ value (t .whole) * 10 ^ places f + value (t .fraction) = s .0 ∙ value-append (t .whole) (t .fraction) ∙ rw (t .exactly) in
-    let q : wholePart f m ≡ value (t .whole) = rw v (digits-div (value (t .whole)) low) in
+    let q : wholePart f m ≡ value (t .whole) = sym (parts m t (s .0) .whole-value) in
     let k : fewestDigits f m ≤ length (t .whole) =
     fewest-least f m (length (t .whole)) (rw q (value-below (t .whole) (t .whole-digits))) (omega (arith, t .some, t .exactly)) in
     let l = simp (length-append, length-replicate) at (t .width) in
@@ -143,6 +205,67 @@ not-stars {g} {f} {w} t e =
     no-asterisk f (t .whole) (t .fraction) (t .whole-digits) (t .fraction-digits) (t .some)
     (sym first ∙ ap (λ (x : List ℕ). getD x k 0) e ∙ getD-replicate w k asterisk 0 b)
 
+-- ---- no other numeral is written so
+
+value-none : value [] ≡ 0
+unfolding value
+value-none = refl
+
+value-zero : value (digitZero ∷ []) ≡ 0
+unfolding value
+value-zero = refl
+
+same-layout : (f : Numeric) {b b′ : ℕ} {s s′ : Sign} {x x′ y y′ : List ℕ} → b ≡ b′ → s ≡ s′ → x ≡ x′ → y ≡ y′ → layout f b s x y ≡ layout f b′ s′ x′ y′
+same-layout f p q r z = rw (p, q, r, z)
+
+module _ (g : Setting) (f : Numeric) (w : ℕ) (n : ℤ) (t : Numeral g f w) (a : AsWritten g f w n t) where
+  at-parts : Parts g f w (natAbs n) t
+  at-parts = parts (natAbs n) t (sign-needed g n (t .sign) (value (t .whole ++ t .fraction)) (a .stands) .0)
+
+  columns : t .blanks + (beside f (signFor g n) + length (t .whole)) ≡ w
+  unfolding beside
+  columns =
+      let l = simp (length-append, length-replicate) at (t .width) in
+      omega (arith, t .exactly, ap (λ (s : Sign). length (signBytes s)) (a .signed-so))
+
+  text-is : characters t ≡ shownText f w (signFor g n) (length (t .whole)) (natAbs n)
+  unfolding numeralText
+  text-is =
+      let b : t .blanks ≡ w - beside f (signFor g n) - length (t .whole) = omega (arith, columns) in
+      same-layout f b (a .signed-so) (at-parts .whole-is) (at-parts .fraction-is)
+
+  digits-shown : fieldText f w (signFor g n) (natAbs n) ≡ shownText f w (signFor g n) (length (t .whole)) (natAbs n)
+  digits-shown = go (t .whole) refl
+    where
+      m : ℕ
+      m = natAbs n
+
+      s : Sign
+      s = signFor g n
+
+      most-shown : length (t .whole) ≡ mostDigits f m → fieldText f w s m ≡ shownText f w s (length (t .whole)) m
+      most-shown q = with-most f w s m q (omega (arith, columns))
+
+      go : (x : List ℕ) → t .whole ≡ x → fieldText f w s m ≡ shownText f w s (length (t .whole)) m
+      go [] e =
+          let k : length (t .whole) ≡ 0 = ap length e in
+          let q : wholePart f m ≡ 0 = sym (at-parts .whole-value) ∙ ap value e ∙ value-none in
+          let few : fewestDigits f m ≤ 0 = fewest-least f m 0 (rw q (omega arith)) (omega (arith, t .some, t .exactly)) in
+          with-fewest f w s m (omega arith) (omega (arith, columns)) (omega (arith, columns, most-of-zero f m q, a .zero-if-free e))
+      go (c ∷ rest) e = elim (ℕ-discrete c digitZero) [
+        | yes z ↦
+            (let r : rest ≡ [] = a .no-leading-zero rest (e ∙ rw z) in
+            let x : t .whole ≡ digitZero ∷ [] = e ∙ rw (z, r) in
+            let v : value (t .whole) ≡ 0 = ap value x ∙ value-zero in
+            most-shown (ap length x ∙ sym (most-of-zero f m (sym (at-parts .whole-value) ∙ v))))
+        | no z ↦
+            most-shown (ap length e ∙ sym (digits-exact c rest (subst Digits e (t .whole-digits)) z) ∙ most-as f m (ap value (sym e) ∙ at-parts .whole-value))
+      ]
+
+pub field-only : FieldOnly
+unfolding field
+field-only g f w n t a = text-is g f w n t a ∙ sym (digits-shown g f w n t a)
+
 pub field-length : FieldLength
 unfolding field
 field-length g f w n = go (starred g f w n) refl
@@ -150,8 +273,8 @@ field-length g f w n = go (starred g f w n) refl
     go : (b : Bool) → starred g f w n ≡ b → length (field g f w n) ≡ w
     go true e = rw (starred-stars g f w n e) (length-replicate w asterisk)
     go false e =
-        let d = shown-digits g f w n e in
-        ap length (d .4) ∙ length-shown f w (signFor g n) (d .0) (natAbs n) (d .3)
+        let d = shown g f w n e in
+        ap length (d .is) ∙ length-shown f w (signFor g n) (d .k) (natAbs n) (d .room)
 
 pub starred-is : StarredIs
 starred-is g f w n = (starred-stars g f w n, λ e. go (starred g f w n) refl e)
@@ -166,10 +289,10 @@ pub stars-exactly-when : StarsExactlyWhen
 stars-exactly-when g f w n = go (starred g f w n) refl
   where
     go : (b : Bool) → starred g f w n ≡ b → (field g f w n ≡ replicate w asterisk) ↔ ((t : Numeral g f w) → standsFor t ≡ n → ⊥)
-    go true e = ((λ _ t q. omega (arith, longest n t q, narrow g f w n e)), (λ _. starred-stars g f w n e))
+    go true e = ((λ _ t q. omega (arith, no-shorter n t q, narrow g f w n e)), (λ _. starred-stars g f w n e))
     go false e =
         let t = unstarred-is-numeral g f w n e in
-        ((λ q. absurd (not-stars (t .0) (t .1 ∙ q))), (λ k. absurd (k (t .0) (t .2))))
+        ((λ q. absurd (not-stars (t .0) (t .1 ∙ q))), (λ k. absurd (k (t .0) (t .2 .stands))))
 
 -- ---- decimals, by the answer
 
@@ -240,7 +363,7 @@ decimal-stars-exactly-when g w d u s h = go (case-of g w d u s)
     go (wide-case p q e) =
         let t = unstarred-is-numeral g (F d) w r q in (
           (λ z. clash putStarred e z (λ y. omega arith)),
-          (λ k. absurd (k (t .0) (rounded-is u s d (standsFor (t .0)) .1 (t .2)))),
+          (λ k. absurd (k (t .0) (rounded-is u s d (standsFor (t .0)) .1 (t .2 .stands)))),
         )
 
 pub decimal-starred : DecimalStarred
@@ -261,4 +384,4 @@ decimal-shown g buffer at w d u s h k = go (case-of g w d u s)
     go (narrow-case p q e) = clash putStarred e k (λ z. omega arith)
     go (wide-case p q e) =
         let t = unstarred-is-numeral g (F d) w (roundedUnits u s d) q in
-        (t .0, rw (p, ← t .1), rounded-is u s d (standsFor (t .0)) .1 (t .2))
+        (t .0, rw (p, ← t .1), rounded-is u s d (standsFor (t .0)) .1 (t .2 .stands))

@@ -5,7 +5,7 @@ use mathlib.Core.List.{List, [], _∷_, _++_}
 use Prim.Native.Nat.{ℕ, _+_, _<_}
 use lib.ListN.{length, replicate}
 use lib.IntN.{ℤ, pos, negℤ}
-use Rattle.buffer.specs.Characters.{blank, plusSign, minusSign, pointSign}
+use Rattle.buffer.specs.Characters.{blank, plusSign, minusSign, decimalPoint}
 use Rattle.number.specs.Digits.{Digits, value}
 
 -- the descriptor of a numeric field, its width aside: Iw, and Fw.d
@@ -21,7 +21,7 @@ places (F d) = d
 -- 'a point', for F
 abbrev pub point : Numeric → List ℕ
 point I = []
-point (F d) = pointSign ∷ []
+point (F d) = decimalPoint ∷ []
 
 -- '+ or − or no sign'
 pub data Sign : Type 0 where
@@ -46,9 +46,9 @@ layout f blanks sign whole fraction = replicate blanks blank ++ (signBytes sign 
 pub data Setting : Type 0 where
   plain : Setting
 
--- whether a setting permits a numeral with this sign and magnitude
-abbrev pub Permitted : Setting → Sign → ℕ → Type 0
-Permitted plain sign m = Unit {0}
+-- whether a setting permits a numeral with this sign and these digits
+abbrev pub Permitted : Setting → Sign → List ℕ → List ℕ → Type 0
+Permitted plain sign whole fraction = Unit {0}
 
 -- Term 'numeral of width w', under a setting
 pub record Numeral (g : Setting) (f : Numeric) (w : ℕ) : Type 0 where
@@ -63,7 +63,7 @@ pub record Numeral (g : Setting) (f : Numeric) (w : ℕ) : Type 0 where
   pub exactly : length fraction ≡ places f
   -- 'with at least one digit in all'
   pub some : 0 < length whole + length fraction
-  pub permitted : Permitted g sign (value (whole ++ fraction))
+  pub permitted : Permitted g sign whole fraction
   -- 'is w characters'
   pub width : length (layout f blanks sign whole fraction) ≡ w
 

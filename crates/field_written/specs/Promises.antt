@@ -3,16 +3,16 @@
 use mathlib.Core.Path.{_≡_}
 use mathlib.Core.Logic.{_↔_}
 use mathlib.Core.Bool.{true, false}
-use mathlib.Core.List.{List}
+use mathlib.Core.List.{List, [], _∷_}
 use Prim.Native.Nat.{ℕ, _≤_}
 use lib.ListN.{length, replicate}
 use lib.IntN.{ℤ, natAbs}
-use Rattle.buffer.specs.Characters.{asterisk}
+use Rattle.buffer.specs.Characters.{asterisk, digitZero}
 use Rattle.buffer.specs.Splice.{splice}
-use Rattle.number.specs.Magnitude.{largest}
+use Rattle.number.specs.Limits.{largest}
 use Rattle.number.specs.Rounding.{Nearest}
 use Rattle.field_written.specs.Numeral.{Setting, Numeric, F, Numeral, characters, standsFor}
-use Rattle.field_written.specs.Written.{field, starred, putDecimal, afterDecimal, putRefusal, putStarred}
+use Rattle.field_written.specs.Written.{signFor, field, starred, putDecimal, afterDecimal, putRefusal, putStarred}
 
 -- a field has w characters
 abbrev pub FieldLength : Type 0
@@ -28,10 +28,25 @@ abbrev pub StarsExactlyWhen : Type 0
 StarsExactlyWhen =
     (g : Setting) (f : Numeric) (w : ℕ) (n : ℤ) → (field g f w n ≡ replicate w asterisk) ↔ ((t : Numeral g f w) → standsFor t ≡ n → ⊥)
 
--- a field that is not starred is a numeral of width w that stands for the value
+-- what document 01 says of the numeral that a field is: 'with − exactly for a value below zero after rounding, never +,
+-- and no leading zero, except the only digit of an I and one zero before the point of an F with integer part 0 where a
+-- column is free'
+pub record AsWritten (g : Setting) (f : Numeric) (w : ℕ) (n : ℤ) (t : Numeral g f w) : Type 0 where
+  pub stands : standsFor t ≡ n
+  pub signed-so : t .sign ≡ signFor g n
+  -- a zero in front is the only digit there
+  pub no-leading-zero : (rest : List ℕ) → t .whole ≡ digitZero ∷ rest → rest ≡ []
+  -- no digit stands before the point only where no column is free
+  pub zero-if-free : t .whole ≡ [] → t .blanks ≡ 0
+
+-- a field that is not starred is a numeral of width w that stands for the value, written so
 abbrev pub UnstarredIsNumeral : Type 0
 UnstarredIsNumeral =
-    (g : Setting) (f : Numeric) (w : ℕ) (n : ℤ) → starred g f w n ≡ false → (t : Numeral g f w) × (characters t ≡ field g f w n) × (standsFor t ≡ n)
+    (g : Setting) (f : Numeric) (w : ℕ) (n : ℤ) → starred g f w n ≡ false → (t : Numeral g f w) × (characters t ≡ field g f w n) × (AsWritten g f w n t)
+
+-- and there is no other
+abbrev pub FieldOnly : Type 0
+FieldOnly = (g : Setting) (f : Numeric) (w : ℕ) (n : ℤ) (t : Numeral g f w) → AsWritten g f w n t → characters t ≡ field g f w n
 
 -- ---- the decimal u / 10^s under Fw.d, without the closed form of rounding
 

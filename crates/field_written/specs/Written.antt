@@ -11,7 +11,7 @@ use Rattle.buffer.specs.Splice.{splice}
 use Rattle.number.specs.Magnitude.{negative}
 use Rattle.number.specs.Digits.{digitsOf, digitCount}
 use Rattle.number.specs.Rounding.{roundedUnits, tooLarge}
-use Rattle.field_written.specs.Numeral.{Numeric, F, places, Sign, none, minus, layout, Setting, plain}
+use Rattle.field_written.specs.Numeral.{Numeric, I, F, places, Sign, none, minus, layout, Setting, plain}
 use Rattle.field_written.specs.declared.Put.{Put}
 use Rattle.field_written.specs.declared.Put.the-variants.{Shown, Starred, TooLarge}
 
@@ -22,7 +22,7 @@ use Rattle.field_written.specs.declared.Put.the-variants.{Shown, Starred
 unfoldable pub mostDigits : Numeric → ℕ → ℕ
 mostDigits f m = digitCount (m / 10 ^ places f)
 
--- the same where that zero before the point is left out, which takes a digit after it
+-- the same where that zero before the point is left out, which needs a digit after the point
 unfoldable pub fewestDigits : Numeric → ℕ → ℕ
 fewestDigits f m = cond (ltb 0 (places f) && eqb (m / 10 ^ places f) 0) 0 (mostDigits f m)
 
@@ -63,6 +63,10 @@ field g f w n = fieldText f w (signFor g n) (natAbs n)
 unfoldable pub starred : Setting → Numeric → ℕ → ℤ → Bool
 starred g f w n = ltb w (fewestColumns f (signFor g n) (natAbs n))
 
+-- the buffer after writing n under Iw from offset at on
+abbrev pub afterInteger : Setting → List ℕ → ℕ → ℕ → ℤ → List ℕ
+afterInteger g buffer at w n = splice buffer at (field g I w n)
+
 -- ---- the decimal u / 10^s under Fw.d
 
 -- its field, 'the decimal rounded to d places for F'
@@ -74,7 +78,7 @@ unfoldable pub putDecimal : Setting → ℕ → ℕ → ℤ → ℕ → Put
 putDecimal g w d u s =
     cond (tooLarge u s d) TooLarge (cond (starred g (F d) w (roundedUnits u s d)) Starred Shown)
 
--- the buffer after writing it from place at on; refused, it is as it was
+-- the buffer after writing it from offset at on; refused, it is as it was
 unfoldable pub afterDecimal : Setting → List ℕ → ℕ → ℕ → ℕ → ℤ → ℕ → List ℕ
 afterDecimal g buffer at w d u s = cond (tooLarge u s d) buffer (splice buffer at (decimalField g w d u s))
 

@@ -3,7 +3,7 @@ use number::digits::digit_count;
 ghost use mathlib.Core.Path.{_≡_};
 ghost use Prim.Native.Nat.{_<_, _≤_};
 ghost use lib.ListN.{length};
-ghost use Rattle.number.specs.Magnitude.{largest, mostPlaces};
+ghost use Rattle.number.specs.Limits.{largest, mostPlaces};
 ghost use Rattle.field_written.specs.Numeral.{I, F, signBytes};
 ghost use Rattle.field_written.specs.Written.{minusIf, fewestColumns};
 

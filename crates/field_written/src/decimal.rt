@@ -12,7 +12,7 @@ ghost use lib.Dec.{ltb};
 ghost use lib.ListN.{length};
 ghost use lib.IntN.{natAbs};
 ghost use Rattle.buffer.specs.Splice.{splice};
-ghost use Rattle.number.specs.Magnitude.{largest, mostPlaces};
+ghost use Rattle.number.specs.Limits.{largest, mostPlaces};
 ghost use Rattle.number.specs.Digits.{digitsOf};
 ghost use Rattle.field_written.specs.Numeral.{F, plain, signBytes, layout};
 ghost use Rattle.field_written.specs.Written.{minusIf, fewestColumns, fieldText, putDecimal, afterDecimal};
@@ -63,7 +63,7 @@ fn put_decimal(
     put_numeral(dst, at + blanks, negative, k, m / p, d, m % p);
 }
 
-// units / 10^places, rounded to d places, under Fw.d from place at on.
+// units / 10^places, rounded to d places, under Fw.d from offset at on.
 pub fn write_decimal(
     dst: &mut [u8],
     at: usize,
@@ -75,12 +75,12 @@ pub fn write_decimal(
     requires { ⌜ (at + width ≤ length (now dst)) × (d ≤ mostPlaces) × (natAbs units ≤ largest) × (places ≤ mostPlaces) ⌝ }
     ensures { λ r. ⌜ (r ≡ putDecimal plain width d units places) × (now (dst .exit) ≡ afterDecimal plain (now (dst .entry)) at width d units places) ⌝ }
 {
-    let below = number::sign::is_negative(units);
+    let was_negative = number::sign::is_negative(units);
     let m = number::sign::magnitude(units);
     let r = number::rounding::round(m, places, d);
     match r {
         Rounded::Units(v) => {
-            let negative = number::sign::stays_negative(below, v);
+            let negative = number::sign::stays_negative(was_negative, v);
             let need = decimal_columns(negative, d, v);
             if width < need {
                 buffer::fill(dst, at, width, b'*');

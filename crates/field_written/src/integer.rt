@@ -8,9 +8,9 @@ ghost use Prim.Native.Nat.{_+_, _≤_};
 ghost use lib.ListN.{length};
 ghost use lib.IntN.{natAbs};
 ghost use Rattle.buffer.specs.Splice.{splice};
-ghost use Rattle.number.specs.Magnitude.{largest};
+ghost use Rattle.number.specs.Limits.{largest};
 ghost use Rattle.field_written.specs.Numeral.{I, plain};
-ghost use Rattle.field_written.specs.Written.{minusIf, fewestColumns, fieldText, starred, field};
+ghost use Rattle.field_written.specs.Written.{minusIf, fewestColumns, fieldText, starred, afterInteger};
 
 // The numeral, right justified; it takes `need` columns, which are there.
 fn put_integer(dst: &mut [u8], at: usize, width: usize, need: usize, negative: bool, m: u64)
@@ -25,10 +25,10 @@ fn put_integer(dst: &mut [u8], at: usize, width: usize, need: usize, negative: b
     put_digits(dst, at + blanks + s, k, m);
 }
 
-// n under Iw from place at on; whether the field is starred.
+// n under Iw from offset at on; whether the field is starred.
 pub fn write_integer(dst: &mut [u8], at: usize, width: usize, n: i64) -> bool
     requires { ⌜ (at + width ≤ length (now dst)) × (natAbs n ≤ largest) ⌝ }
-    ensures { λ r. ⌜ (r ≡ starred plain I width n) × (now (dst .exit) ≡ splice (now (dst .entry)) at (field plain I width n)) ⌝ }
+    ensures { λ r. ⌜ (r ≡ starred plain I width n) × (now (dst .exit) ≡ afterInteger plain (now (dst .entry)) at width n) ⌝ }
 {
     let negative = number::sign::is_negative(n);
     let m = number::sign::magnitude(n);

@@ -23,12 +23,13 @@ pub fn put_digits(dst: &mut [u8], at: usize, k: usize, m: u64)
     requires { ⌜ (at + k ≤ length (now dst)) × (k < 19) × (m < 10 ^ k) ⌝ }
     ensures { λ r. ⌜ now (dst .exit) ≡ splice (now (dst .entry)) at (digitsOf k m) ⌝ }
 {
+    let mut p = power_of_ten(k) / 10;
     let mut rest = m;
     let mut i: usize = 0;
     while i < k {
-        let p = power_of_ten(k - 1 - i);
         dst[at + i] = b'0' + (rest / p) as u8;
         rest = rest % p;
+        p = p / 10;
         i += 1;
     }
 }

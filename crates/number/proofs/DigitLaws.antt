@@ -4,17 +4,17 @@ use mathlib.Core.Path.{_≡_, refl, sym, ap, _∙_}
 use mathlib.Core.Bool.{Bool, true, false, _&&_, cond, false≢true}
 use mathlib.Core.List.{List, [], _∷_, _++_}
 use Prim.Native.Nat.{ℕ, zero, suc, _+_, _-_, _*_, _/_, _%_, _^_, _<_, _≤_}
-use native.Mathlib.Nat.{not-suc-le-zero, le-of-suc-le-suc, lt-of-le-of-lt, lt-of-lt-of-le, mod-one, pow-suc, pow-succ', zero-mul, zero-add, add-assoc, add-mul, mul-assoc, lt-irrefl, mod-eq-of-lt, mod-lt}
+use native.Mathlib.Nat.{mul-le-mul-right, le-div-iff-mul-le, div-lt-iff-lt-mul, not-suc-le-zero, le-of-suc-le-suc, lt-of-lt-of-le, mod-one, pow-suc, pow-succ', zero-mul, zero-add, add-assoc, add-mul, mul-assoc, lt-irrefl, mod-eq-of-lt, mod-lt}
 use native.Mathlib.Decide.{decLt}
 use native.Mathlib.Omega.{arith}
-use borrow.Author.Tests.{leb-true, leb-false, le-leb}
+use borrow.Author.Tests.{ltb-true, ltb-false, leb-true, le-leb}
 use lib.Arith.{digits-lt, digits-div, digits-mod, mod-mul}
-use lib.Dec.{leb}
+use lib.Dec.{leb, ltb}
 use lib.ListN.{length, getD, length-append}
 use lib.Pow.{pow-add}
-use Rattle.number.specs.Digits.{Digits, allDigits, value, digitsOf, countUpTo, digitCount}
+use Rattle.number.specs.Digits.{Digits, allDigits, value, digitsOf, countDigits, digitCount}
 use Rattle.number.specs.Promises.{DigitCountIs, AllDigitsIs}
-use Rattle.number.proofs.PowerLaws.{ten-pos, ten-le, lt-of-ten}
+use Rattle.number.proofs.PowerLaws.{ten-pos, ten-le}
 
 pub length-digits : (k m : ℕ) → length (digitsOf k m) ≡ k
 unfolding digitsOf
@@ -23,45 +23,52 @@ length-digits (suc k) m = ap suc (length-digits k m)
 
 -- ---- how many
 
-count-least : (n m k : ℕ) → 0 < k → m < 10 ^ k → countUpTo n m ≤ k
-unfolding countUpTo
-count-least zero m k h g = h
-count-least (suc n) m k h g = go (count-least n m k h g) (leb (10 ^ suc n) m) refl
+tenth-low : {m x : ℕ} → m < x * 10 → m / 10 < x
+tenth-low {m} {x} h = div-lt-iff-lt-mul {k = 10} (omega arith) .1 h
+
+tenth-high : {m x : ℕ} → m / 10 < x → m < x * 10
+tenth-high {m} {x} h = div-lt-iff-lt-mul {k = 10} (omega arith) .0 h
+
+one-more : (c m k : ℕ) → (0 < k → m / 10 < 10 ^ k → c ≤ k) → 10 ≤ m → m < 10 ^ suc k → suc c ≤ suc k
+one-more c m zero r b g = absurd (omega arith)
+one-more c m (suc k) r b g = omega (arith, r (omega arith) (tenth-low (rw pow-suc at g)))
+
+count-least : (n m k : ℕ) → m ≤ n → 0 < k → m < 10 ^ k → countDigits n m ≤ k
+unfolding countDigits
+count-least zero m k l h g = h
+count-least (suc n) m zero l h g = absurd (not-suc-le-zero h)
+count-least (suc n) m (suc k) l h g = go (count-least n (m / 10) k (omega arith)) (ltb m 10) refl
   where
-    go : countUpTo n m ≤ k → (b : Bool) → leb (10 ^ suc n) m ≡ b → cond b (suc (suc n)) (countUpTo n m) ≤ k
-    go r true e = lt-of-ten (suc n) k (lt-of-le-of-lt (leb-true _ _ e) g)
-    go r false e = r
+    go : (0 < k → m / 10 < 10 ^ k → countDigits n (m / 10) ≤ k) → (b : Bool) → ltb m 10 ≡ b → cond b 1 (suc (countDigits n (m / 10))) ≤ suc k
+    go r true e = omega arith
+    go r false e = one-more (countDigits n (m / 10)) m k r (ltb-false m 10 e) g
 
 -- one digit or more that hold m are as many as it has at least
 pub digitCount-least : (m k : ℕ) → 0 < k → m < 10 ^ k → digitCount m ≤ k
 unfolding digitCount
-digitCount-least m k h g = count-least m m k h g
+digitCount-least m k h g = count-least m m k (omega arith) h g
 
-count-holds : (n m : ℕ) → m < 10 ^ suc n → m < 10 ^ countUpTo n m
-unfolding countUpTo
-count-holds zero m g = g
-count-holds (suc n) m g = go (count-holds n m) (leb (10 ^ suc n) m) refl
+count-holds : (n m : ℕ) → m ≤ n → m < 10 ^ countDigits n m
+unfolding countDigits
+count-holds zero m l = omega arith
+count-holds (suc n) m l = go (count-holds n (m / 10) (omega arith)) (ltb m 10) refl
   where
-    go : (m < 10 ^ suc n → m < 10 ^ countUpTo n m) → (b : Bool) → leb (10 ^ suc n) m ≡ b → m < 10 ^ cond b (suc (suc n)) (countUpTo n m)
-    go r true e = g
-    go r false e = r (leb-false _ _ e)
-
-below-ten : (m : ℕ) → m < 10 ^ suc m
-below-ten zero = omega arith
-below-ten (suc m) = rw (pow-suc 10 (suc m)) (omega (arith, below-ten m))
+    go : m / 10 < 10 ^ countDigits n (m / 10) → (b : Bool) → ltb m 10 ≡ b → m < 10 ^ cond b 1 (suc (countDigits n (m / 10)))
+    go r true e = ltb-true m 10 e
+    go r false e = rw (pow-suc 10 (countDigits n (m / 10))) (tenth-high r)
 
 pub digitCount-holds : (m : ℕ) → m < 10 ^ digitCount m
 unfolding digitCount
-digitCount-holds m = count-holds m m (below-ten m)
+digitCount-holds m = count-holds m m (omega arith)
 
-count-pos : (n m : ℕ) → 0 < countUpTo n m
-unfolding countUpTo
+count-pos : (n m : ℕ) → 0 < countDigits n m
+unfolding countDigits
 count-pos zero m = omega arith
-count-pos (suc n) m = go (count-pos n m) (leb (10 ^ suc n) m)
+count-pos (suc n) m = go (ltb m 10)
   where
-    go : 0 < countUpTo n m → (b : Bool) → 0 < cond b (suc (suc n)) (countUpTo n m)
-    go r true = omega arith
-    go r false = r
+    go : (b : Bool) → 0 < cond b 1 (suc (countDigits n (m / 10)))
+    go true = omega arith
+    go false = omega arith
 
 pub digitCount-pos : (m : ℕ) → 0 < digitCount m
 unfolding digitCount
@@ -161,3 +168,48 @@ getD-digits zero m i h = absurd (not-suc-le-zero h)
 getD-digits (suc k) m zero h = ap (λ (e : ℕ). 48 + m / 10 ^ e % 10) (omega arith)
 getD-digits (suc k) m (suc i) h =
     getD-digits k m i (le-of-suc-le-suc h) ∙ ap (λ (e : ℕ). 48 + m / 10 ^ e % 10) (omega arith)
+
+-- ---- digits are those of their value
+
+pub digits-unique : (ds : List ℕ) → Digits ds → digitsOf (length ds) (value ds) ≡ ds
+unfolding digitsOf value
+digits-unique [] h = refl
+digits-unique (x ∷ xs) h =
+    let k : ℕ = length xs in
+    let v : ℕ = (x - 48) * 10 ^ k + value xs in
+    let low : value xs < 10 ^ k = value-below xs (h .2) in
+    let first : 48 + v / 10 ^ k % 10 ≡ x = rw (digits-div (x - 48) low, mod-eq-of-lt {n = x - 48} {m = 10} (omega arith)) (omega arith) in
+    let rest : digitsOf k v ≡ xs = sym (digits-cut k v) ∙ rw (digits-mod (x - 48) low) (digits-unique xs (h .2)) in
+    rw (first, rest)
+
+first-high : (x : ℕ) → 48 ≤ x → (x ≡ 48 → ⊥) → 1 ≤ x - 48
+first-high x h n = omega arith
+
+-- without a zero in front they are as many as their value has
+pub digits-exact : (x : ℕ) (xs : List ℕ) → Digits (x ∷ xs) → (x ≡ 48 → ⊥) → digitCount (value (x ∷ xs)) ≡ length (x ∷ xs)
+unfolding value
+digits-exact x xs h n =
+    let k : ℕ = length xs in
+    let v : ℕ = (x - 48) * 10 ^ k + value xs in
+    let one : 1 * 10 ^ k ≤ (x - 48) * 10 ^ k = mul-le-mul-right (10 ^ k) (first-high x (h .0) n) in
+    omega (arith, count-more v k (omega arith), digitCount-least v (suc k) (omega arith) (value-below (x ∷ xs) h))
+
+-- the first of k + 2 digits that hold m, where k + 1 do not, is no zero
+first-digit : (m k : ℕ) → m < 10 ^ suc (suc k) → (m < 10 ^ suc k → ⊥) → m / 10 ^ suc k % 10 ≡ 0 → ⊥
+first-digit m k h n z =
+    let q : ℕ = m / 10 ^ suc k in
+    let low : 1 ≤ q = le-div-iff-mul-le (ten-pos (suc k)) .1 (omega arith) in
+    let high : q < 10 = div-lt-iff-lt-mul {k = 10 ^ suc k} (ten-pos (suc k)) .1 (rw pow-succ' at h) in
+    omega (arith, mod-eq-of-lt high)
+
+-- a number's own digits have no zero in front, but that of 0
+pub no-zero : (m : ℕ) (rest : List ℕ) → digitsOf (digitCount m) m ≡ 48 ∷ rest → rest ≡ []
+unfolding digitsOf
+no-zero m rest e = go (digitCount m) refl e
+  where
+    go : (c : ℕ) → digitCount m ≡ c → digitsOf c m ≡ 48 ∷ rest → rest ≡ []
+    go zero q f = absurd (omega (arith, digitCount-pos m))
+    go (suc zero) q f = cc
+    go (suc (suc k)) q f =
+        let z : 48 + m / 10 ^ suc k % 10 ≡ 48 = cc in
+        absurd (first-digit m k (rw q at (digitCount-holds m)) (λ h. omega (arith, digitCount-least m (suc k) (omega arith) h)) (omega arith))

@@ -1,13 +1,13 @@
 -- Laws of the powers of ten.
 -- Assumes nothing.
 use mathlib.Core.Path.{_≡_, ap, _∙_}
-use mathlib.Core.List.{List, [], _∷_}
 use Prim.Native.Nat.{ℕ, zero, suc, _+_, _-_, _*_, _/_, _^_, _<_, _≤_}
 use native.Mathlib.Decide.{decLt}
 use native.Mathlib.Nat.{lt-irrefl, lt-of-lt-of-le, pow-le-pow-right, one-le-pow, pow-suc, not-suc-le-zero, le-of-suc-le-suc}
 use native.Mathlib.Omega.{arith}
 use lib.ListN.{getD}
 use lib.Pow.{pow-add}
+use Rattle.number.specs.Powers.{tens}
 
 pub ten-pos : (k : ℕ) → 0 < 10 ^ k
 ten-pos k = one-le-pow k 10 (omega arith)
@@ -30,11 +30,6 @@ ten-half zero h = omega arith
 ten-half (suc k) h = rw (pow-suc 10 k) (omega arith)
 
 -- ---- the table
-
--- the n powers of ten from 10^i on
-unfoldable pub tens : ℕ → ℕ → List ℕ
-tens i zero = []
-tens i (suc n) = 10 ^ i ∷ tens (suc i) n
 
 -- its rule, over all entries
 pub tens-at : (n i k : ℕ) → k < n → getD (tens i n) k 0 ≡ 10 ^ (i + k)

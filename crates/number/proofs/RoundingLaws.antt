@@ -10,7 +10,7 @@ use lib.Arith.{digits-div}
 use lib.Dec.{ltb}
 use lib.IntN.{ℤ, pos, negsuc, negℤ, natAbs, _*ℤ_, _-ℤ_, negℤ-negℤ, negℤ-+ℤ}
 use borrow.Author.Tests.{lt-ltb, le-ltb, ltb-true, ltb-false}
-use Rattle.number.specs.Magnitude.{largest}
+use Rattle.number.specs.Limits.{largest}
 use Rattle.number.specs.Rounding.{Nearest, distance, roundedMagnitude, roundedUnits, roundingAnswer}
 use Rattle.number.specs.declared.Rounded.the-variants.{Units, TooLarge}
 use Rattle.number.specs.Promises.{RoundedIs, RoundedExact}

@@ -3,7 +3,7 @@
 use mathlib.Core.Bool.{Bool, true, _&&_, cond}
 use mathlib.Core.List.{List, [], _∷_}
 use Prim.Native.Nat.{ℕ, zero, suc, _+_, _-_, _*_, _/_, _%_, _^_, _≤_}
-use lib.Dec.{leb}
+use lib.Dec.{leb, ltb}
 use lib.ListN.{length}
 use Rattle.buffer.specs.Characters.{digitZero, digitNine}
 
@@ -27,12 +27,14 @@ unfoldable pub digitsOf : ℕ → ℕ → List ℕ
 digitsOf zero m = []
 digitsOf (suc k) m = (digitZero + m / 10 ^ k % 10) ∷ digitsOf k m
 
--- one more than the highest k up to n with 10^k at most m; 1 where there is none
-unfoldable pub countUpTo : ℕ → ℕ → ℕ
-countUpTo zero m = 1
-countUpTo (suc n) m = cond (leb (10 ^ suc n) m) (suc (suc n)) (countUpTo n m)
+-- one digit below 10, and else one more than m / 10 has; n bounds how often is divided
+unfoldable pub countDigits : ℕ → ℕ → ℕ
+countDigits zero m = 1
+countDigits (suc n) m =
+    let more = countDigits n (m / 10) in
+    cond (ltb m 10) 1 (suc more)
 
--- how many digits m has without a leading zero; 0 has one. (No k above m has 10^k at most m. The law
--- `DigitCountIs` of `Promises`: the least count, one or more, that holds m.)
+-- how many digits m has without a leading zero; 0 has one. (The law `DigitCountIs` of `Promises`: the least count, one
+-- or more, that holds m.)
 unfoldable pub digitCount : ℕ → ℕ
-digitCount m = countUpTo m m
+digitCount m = countDigits m m

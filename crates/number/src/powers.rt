@@ -1,6 +1,8 @@
 // The powers of ten.
 ghost use mathlib.Core.Path.{_≡_};
 ghost use Prim.Native.Nat.{_<_, _^_};
+ghost use lib.ListN.{length};
+ghost use Rattle.number.specs.Powers.{powersOfTen};
 
 // 10^0 to 10^18.
 const POWERS: [u64; 19] = [
@@ -24,6 +26,13 @@ const POWERS: [u64; 19] = [
     100_000_000_000_000_000,
     1_000_000_000_000_000_000,
 ];
+
+// The table, for a loop that looks up more than one power: a look-up in the constant lays it out anew.
+pub fn table() -> [u64; 19]
+    ensures { λ r. ⌜ (r ≡ powersOfTen) × (length r ≡ 19) ⌝ }
+{
+    POWERS
+}
 
 // 10^k
 pub fn power_of_ten(k: usize) -> u64

@@ -4,7 +4,7 @@ use crate::Rounded;
 use crate::powers::power_of_ten;
 ghost use mathlib.Core.Path.{_≡_};
 ghost use Prim.Native.Nat.{_≤_};
-ghost use Rattle.number.specs.Magnitude.{largest, mostPlaces};
+ghost use Rattle.number.specs.Limits.{largest, mostPlaces};
 ghost use Rattle.number.specs.Rounding.{roundingAnswer};
 
 // units / 10^places to `wanted` places, halves away from zero.

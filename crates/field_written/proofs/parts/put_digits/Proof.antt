@@ -2,36 +2,30 @@
 -- Assumes nothing.
 use Prim.Native.Nat.{_-_}
 use native.Mathlib.Omega.{arith}
-use Rattle.field_written.proofs.Making.{Made, made-none, made-low, made-more, made-all}
+use Rattle.field_written.proofs.Making.{Made, made-none, made-pos, made-low, made-more, made-all}
 use Rattle.field_written.proofs.parts.put_digits.Statement.{statement}
 use Rattle.field_written.proofs.parts.put_digits.Tie as tie
 
 abbrev Inv-loop : tie.InvT-loop
-Inv-loop dst₀ at k m rest₀ i₀ dst rest i = Made dst₀ at k m dst rest i
+Inv-loop dst₀ at k m p₀ rest₀ i₀ dst p rest i = Made dst₀ at k m dst p rest i
 
 abbrev μ-loop : tie.MeasureT-loop
-μ-loop dst₀ at k m rest₀ i₀ dst rest i = k - i
-
-loop-holds : tie.Need-loop-holds Inv-loop μ-loop
-loop-holds c = made-none (c .before .pre .0) (c .before .pre .1) (c .before .pre .2)
-
-sub-power-of-ten : tie.Need-sub-power-of-ten Inv-loop μ-loop
-sub-power-of-ten c = omega arith
-
-sub-power-of-ten-2 : tie.Need-sub-power-of-ten-2 Inv-loop μ-loop
-sub-power-of-ten-2 c = omega arith
+μ-loop dst₀ at k m p₀ rest₀ i₀ dst p rest i = k - i
 
 power-of-ten-requires : tie.Need-power-of-ten-requires Inv-loop μ-loop
 power-of-ten-requires c κs = omega arith
 
+loop-holds : tie.Need-loop-holds Inv-loop μ-loop
+loop-holds c = made-none (c .before .before .pre .0) (c .before .before .pre .2) (c .power-of-ten .ensures .0)
+
 div-dst : tie.Need-div-dst Inv-loop μ-loop
-div-dst c = omega arith
+div-dst c = made-pos (c .before .loop .inv) (c .loop-test .taken)
 
 cast-dst : tie.Need-cast-dst Inv-loop μ-loop
-cast-dst c = omega (arith, made-low (c .before .before .loop .inv) (c .before .loop-test .taken) (c .power-of-ten .ensures .0))
+cast-dst c = omega (arith, made-low (c .before .loop .inv) (c .loop-test .taken))
 
 add-dst : tie.Need-add-dst Inv-loop μ-loop
-add-dst c = omega (arith, made-low (c .before .before .loop .inv) (c .before .loop-test .taken) (c .power-of-ten .ensures .0))
+add-dst c = omega (arith, made-low (c .before .loop .inv) (c .loop-test .taken))
 
 add-dst-2 : tie.Need-add-dst-2 Inv-loop μ-loop
 add-dst-2 c = omega arith
@@ -40,7 +34,7 @@ slice-write-dst : tie.Need-slice-write-dst Inv-loop μ-loop
 slice-write-dst c = omega arith
 
 rem-rest : tie.Need-rem-rest Inv-loop μ-loop
-rem-rest c = omega arith
+rem-rest c = made-pos (c .before .loop .inv) (c .loop-test .taken)
 
 add-i : tie.Need-add-i Inv-loop μ-loop
 add-i c = omega arith
@@ -49,7 +43,7 @@ loop-less : tie.Need-loop-less Inv-loop μ-loop
 loop-less c = omega arith
 
 loop-again : tie.Need-loop-again Inv-loop μ-loop
-loop-again c = made-more (c .before .before .loop .inv) (c .before .loop-test .taken) (c .power-of-ten .ensures .0)
+loop-again c = made-more (c .before .loop .inv) (c .loop-test .taken)
 
 same-length : tie.Need-same-length Inv-loop μ-loop
 same-length c = omega arith
@@ -63,10 +57,8 @@ put-digits-spec =
     (tie.spec
     Inv-loop
     μ-loop
-    loop-holds
-    sub-power-of-ten
-    sub-power-of-ten-2
     power-of-ten-requires
+    loop-holds
     div-dst
     cast-dst
     add-dst

@@ -1,11 +1,12 @@
 -- `number::powers::power_of_ten` meets its contract: antt compares the code's table with `tens 0 19`, whose rule is a law.
 -- Assumes nothing.
-use mathlib.Core.Path.{_≡_, _∙_}
+use mathlib.Core.Path.{_≡_}
 use Prim.Native.Nat.{_^_}
 use native.Mathlib.Nat.{zero-add}
 use lib.ListN.{getD}
 use borrow.Author.Needs.{needs}
-use Rattle.number.proofs.PowerLaws.{ten-pos, tens, tens-at}
+use Rattle.number.specs.Powers.{tens}
+use Rattle.number.proofs.PowerLaws.{ten-pos, tens-at}
 use Rattle.number.proofs.powers.power_of_ten.Statement.{statement}
 use Rattle.number.proofs.powers.power_of_ten.Tie as tie
 
