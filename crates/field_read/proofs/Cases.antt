@@ -1,7 +1,7 @@
 -- A field read, by what its readers find: the front, and the runs of digits.
 -- Assumes nothing.
 use mathlib.Core.Path.{_≡_, refl, sym, ap, _∙_}
-use mathlib.Core.Bool.{Bool, true, false, cond}
+use mathlib.Core.Bool.{cond}
 use mathlib.Core.List.{List, [], _∷_, _++_, append-nil, append-assoc}
 use Prim.Native.Nat.{ℕ, suc, _+_, _*_, _^_, _<_, _≤_}
 use native.Mathlib.Nat.{zero-add}
@@ -11,16 +11,16 @@ use lib.Dec.{eqb}
 use lib.ListN.{length, drop, getD, length-append}
 use lib.IntN.{pos}
 use Rattle.buffer.specs.Characters.{plusSign, minusSign}
-use Rattle.number.specs.Magnitude.{withSign}
 use Rattle.number.specs.Digits.{Digits, value}
 use Rattle.number.proofs.DigitLaws.{value-append, digits-append}
-use Rattle.field_written.specs.Numeral.{Numeric, I, F, places, Sign, none, plus, minus}
-use Rattle.field_written.specs.Written.{minusIf}
+use Rattle.field_written.specs.Numeral.{Numeric, I, F, places, signed}
+use Rattle.field_written.specs.declared.Sign.{Sign}
+use Rattle.field_written.specs.declared.Sign.the-variants.{None, Plus, Minus}
 use Rattle.field_read.specs.Read.{unblanked, signOf, afterSign, beforePoint, fromPoint, numberRead, placesRead, readDigits, readField}
-use Rattle.field_read.specs.Steps.{Skipped, isMinus, Signed, Ran, RunTooLarge}
+use Rattle.field_read.specs.Steps.{Skipped, Signed, Ran, RunTooLarge}
 use Rattle.field_read.specs.declared.FieldRead.the-variants.{Number, Refused}
 use Rattle.field_read.proofs.Blanks.{at-other, at-end}
-use Rattle.field_read.proofs.Numbers.{number-good, number-bad, number-over, number-long, signed-as, plus-none, before-digits, from-digits, before-other, at-point, before-all, from-all}
+use Rattle.field_read.proofs.Numbers.{number-good, number-bad, number-over, number-long, before-digits, from-digits, before-other, at-point, before-all, from-all}
 
 -- ---- the front
 
@@ -33,18 +33,12 @@ pub read-some : (f : Numeric) (s : List ℕ) (x : ℕ) (t : List ℕ) → unblan
 unfolding readField
 read-some f s x t e = rw e (simp (ne-eqb (suc (length t)) 0 (λ q. omega arith)))
 
--- a plus reads as no sign
-sign-read : (f : Numeric) (s : Sign) (t : List ℕ) → readDigits f s t ≡ readDigits f (minusIf (isMinus s)) t
-sign-read f none t = refl
-sign-read f plus t = plus-none f t
-sign-read f minus t = refl
-
-pub signed-reads : {s : List ℕ} {below : Bool} {from : ℕ} → Signed s below from → (f : Numeric) → readField f s ≡ readDigits f (minusIf below) (unblanked (drop from s))
+pub signed-reads : {s : List ℕ} {sign : Sign} {from : ℕ} → Signed s sign from → (f : Numeric) → readField f s ≡ readDigits f sign (unblanked (drop from s))
 unfolding readField
-signed-reads {s} {below} {from} w f =
+signed-reads {s} {sign} {from} w f =
     let u : List ℕ = unblanked s in
     simp (ne-eqb (length u) 0 (λ e. omega (arith, w .some)))
-    (sign-read f (signOf u) (afterSign u) ∙ rw (← w .sign) (ap (readDigits f (minusIf below)) (w .rest)))
+    (ap (readDigits f (signOf u)) (w .rest) ∙ ap (λ (x : Sign). readDigits f x (unblanked (drop from s))) (sym (w .sign-is)))
 
 module _ {s : List ℕ} {at : ℕ} (w : Skipped s at) where
   pub front-nothing : length s ≤ at → unblanked s ≡ []
@@ -54,19 +48,19 @@ module _ {s : List ℕ} {at : ℕ} (w : Skipped s at) where
     first : unblanked s ≡ getD s at 0 ∷ unblanked (drop (at + 1) s)
     first = w .same ∙ at-other s at h (w .stop h)
 
-    pub front-plus : getD s at 0 ≡ plusSign → Signed s false (at + 1)
-    front-plus e = record { past = omega arith; some = rw first (omega arith); sign = rw (first, e); rest = rw (first, e) }
+    pub front-plus : getD s at 0 ≡ plusSign → Signed s Plus (at + 1)
+    front-plus e = record { past = omega arith; some = rw first (omega arith); sign-is = rw (first, e); rest = rw (first, e) }
 
-    pub front-minus : getD s at 0 ≡ minusSign → Signed s true (at + 1)
-    front-minus e = record { past = omega arith; some = rw first (omega arith); sign = rw (first, e); rest = rw (first, e) }
+    pub front-minus : getD s at 0 ≡ minusSign → Signed s Minus (at + 1)
+    front-minus e = record { past = omega arith; some = rw first (omega arith); sign-is = rw (first, e); rest = rw (first, e) }
 
-    pub front-none : (getD s at 0 ≡ plusSign → ⊥) → (getD s at 0 ≡ minusSign → ⊥) → Signed s false at
+    pub front-none : (getD s at 0 ≡ plusSign → ⊥) → (getD s at 0 ≡ minusSign → ⊥) → Signed s None at
     front-none p m =
         let x : ℕ = getD s at 0 in
         record {
           past = omega arith;
           some = rw first (omega arith);
-          sign = rw first (simp (ne-eqb x 43 p, ne-eqb x 45 m));
+          sign-is = rw first (simp (ne-eqb x 43 p, ne-eqb x 45 m));
           rest = rw first (simp (ne-eqb x 43 p, ne-eqb x 45 m) (rw (at-other s at h (w .stop h))));
         }
 
@@ -84,21 +78,21 @@ sums : (pre ds : List ℕ) {v : ℕ} → v ≡ value pre → value (pre ++ ds) �
 sums pre ds h = value-append pre ds ∙ rw h
 
 -- the digits pre stand before the run, and x ++ y are all of them, y after the point
-module _ {s : List ℕ} {from v : ℕ} (below : Bool) (p : ℕ) (x y pre : List ℕ) (e : x ++ y ≡ pre ++ unblanked (drop from s)) (d : Digits pre) (hv : v ≡ value pre) where
-  pub run-ended : {sum count next : ℕ} → Ran s from v sum count next → length s ≤ next → length y ≤ 9 → cond (eqb (length pre + count) 0) Refused (Number (withSign below sum) p) ≡ numberRead (minusIf below) p x y
+module _ {s : List ℕ} {from v : ℕ} (sign : Sign) (p : ℕ) (x y pre : List ℕ) (e : x ++ y ≡ pre ++ unblanked (drop from s)) (d : Digits pre) (hv : v ≡ value pre) where
+  pub run-ended : {sum count next : ℕ} → Ran s from v sum count next → length s ≤ next → length y ≤ 9 → cond (eqb (length pre + count) 0) Refused (Number (signed sign sum) p) ≡ numberRead sign p x y
   run-ended {sum} {count} {next} r h l =
       let q : x ++ y ≡ pre ++ r .digits = e ∙ rw (run-all r h) in
       let v : value (x ++ y) ≡ sum = ap value q ∙ sums pre (r .digits) hv ∙ sym (r .is) in
       let n : length (x ++ y) ≡ length pre + count = ap length q ∙ length-append pre (r .digits) ∙ rw (r .many) in
-      sym (number-good (minusIf below) p x y (rw q (digits-append pre (r .digits) d (r .all))) l (rw v (r .low)) ∙ rw (v, n, signed-as below sum))
+      sym (number-good sign p x y (rw q (digits-append pre (r .digits) d (r .all))) l (rw v (r .low)) ∙ rw (v, n))
 
-  pub run-stopped : {sum count next : ℕ} → Ran s from v sum count next → next < length s → Refused ≡ numberRead (minusIf below) p x y
+  pub run-stopped : {sum count next : ℕ} → Ran s from v sum count next → next < length s → Refused ≡ numberRead sign p x y
   run-stopped {sum} {count} {next} r h =
-      sym (number-bad (minusIf below) p x y (pre ++ r .digits) (getD s next 0) (unblanked (drop (next + 1) s)) (e ∙ rw (run-part r h, append-assoc)) (r .no-digit h))
+      sym (number-bad sign p x y (pre ++ r .digits) (getD s next 0) (unblanked (drop (next + 1) s)) (e ∙ rw (run-part r h, append-assoc)) (r .no-digit h))
 
-  pub run-over : RunTooLarge s from v → Refused ≡ numberRead (minusIf below) p x y
+  pub run-over : RunTooLarge s from v → Refused ≡ numberRead sign p x y
   run-over r =
-      sym (number-over (minusIf below) p x y (pre ++ r .digits) (r .more) (e ∙ rw (r .rest, append-assoc)) (rw (sums pre (r .digits) hv) (r .high)))
+      sym (number-over sign p x y (pre ++ r .digits) (r .more) (e ∙ rw (r .rest, append-assoc)) (rw (sums pre (r .digits) hv) (r .high)))
 
 pub value-none : 0 ≡ value []
 unfolding value
@@ -106,54 +100,54 @@ value-none = refl
 
 -- ---- under I
 
-module _ {s : List ℕ} {from : ℕ} (below : Bool) where
-  pub whole-ended : {sum count next : ℕ} → Ran s from 0 sum count next → length s ≤ next → cond (eqb count 0) Refused (Number (withSign below sum) 0) ≡ readDigits I (minusIf below) (unblanked (drop from s))
+module _ {s : List ℕ} {from : ℕ} (sign : Sign) where
+  pub whole-ended : {sum count next : ℕ} → Ran s from 0 sum count next → length s ≤ next → cond (eqb count 0) Refused (Number (signed sign sum) 0) ≡ readDigits I sign (unblanked (drop from s))
   whole-ended {sum} {count} {next} r h =
-      let e : cond (eqb (0 + count) 0) Refused (Number (withSign below sum) 0) ≡ numberRead (minusIf below) 0 (unblanked (drop from s)) [] =
-      run-ended {s = s} {from = from} below 0 (unblanked (drop from s)) [] [] (append-nil (unblanked (drop from s))) tt value-none r h (omega arith) in
+      let e : cond (eqb (0 + count) 0) Refused (Number (signed sign sum) 0) ≡ numberRead sign 0 (unblanked (drop from s)) [] =
+      run-ended {s = s} {from = from} sign 0 (unblanked (drop from s)) [] [] (append-nil (unblanked (drop from s))) tt value-none r h (omega arith) in
       rw zero-add at e
 
-  pub whole-stopped : {sum count next : ℕ} → Ran s from 0 sum count next → next < length s → Refused ≡ readDigits I (minusIf below) (unblanked (drop from s))
-  whole-stopped r h = run-stopped {s = s} {from = from} below 0 (unblanked (drop from s)) [] [] (append-nil (unblanked (drop from s))) tt value-none r h
+  pub whole-stopped : {sum count next : ℕ} → Ran s from 0 sum count next → next < length s → Refused ≡ readDigits I sign (unblanked (drop from s))
+  whole-stopped r h = run-stopped {s = s} {from = from} sign 0 (unblanked (drop from s)) [] [] (append-nil (unblanked (drop from s))) tt value-none r h
 
-  pub whole-over : RunTooLarge s from 0 → Refused ≡ readDigits I (minusIf below) (unblanked (drop from s))
-  whole-over r = run-over {s = s} {from = from} below 0 (unblanked (drop from s)) [] [] (append-nil (unblanked (drop from s))) tt value-none r
+  pub whole-over : RunTooLarge s from 0 → Refused ≡ readDigits I sign (unblanked (drop from s))
+  whole-over r = run-over {s = s} {from = from} sign 0 (unblanked (drop from s)) [] [] (append-nil (unblanked (drop from s))) tt value-none r
 
 -- ---- under F, after the point: the digits `whole` stand before it
 
-module _ {s : List ℕ} {from v : ℕ} (below : Bool) (whole : List ℕ) (d : Digits whole) (hv : v ≡ value whole) where
-  pub fraction-ended : {sum count places next : ℕ} → count ≡ length whole → Ran s from v sum places next → length s ≤ next → places ≤ 9 → cond (eqb (count + places) 0) Refused (Number (withSign below sum) places) ≡ numberRead (minusIf below) (length (unblanked (drop from s))) whole (unblanked (drop from s))
+module _ {s : List ℕ} {from v : ℕ} (sign : Sign) (whole : List ℕ) (d : Digits whole) (hv : v ≡ value whole) where
+  pub fraction-ended : {sum count places next : ℕ} → count ≡ length whole → Ran s from v sum places next → length s ≤ next → places ≤ 9 → cond (eqb (count + places) 0) Refused (Number (signed sign sum) places) ≡ numberRead sign (length (unblanked (drop from s))) whole (unblanked (drop from s))
   fraction-ended {sum} {count} {places} {next} n r h l =
       let t : List ℕ = unblanked (drop from s) in
       let m : length t ≡ places = ap length (run-all r h) ∙ sym (r .many) in
-      rw (n, ← m) (rw (← m) at (run-ended {s = s} {from = from} below (length t) whole t whole refl d hv r h (omega arith)))
+      rw (n, ← m) (rw (← m) at (run-ended {s = s} {from = from} sign (length t) whole t whole refl d hv r h (omega arith)))
 
-  pub fraction-long : {sum places next : ℕ} → Ran s from v sum places next → length s ≤ next → 9 < places → Refused ≡ numberRead (minusIf below) (length (unblanked (drop from s))) whole (unblanked (drop from s))
+  pub fraction-long : {sum places next : ℕ} → Ran s from v sum places next → length s ≤ next → 9 < places → Refused ≡ numberRead sign (length (unblanked (drop from s))) whole (unblanked (drop from s))
   fraction-long r h l =
       let t : List ℕ = unblanked (drop from s) in
-      sym (number-long (minusIf below) (length t) whole t (omega (arith, ap length (run-all r h), r .many)))
+      sym (number-long sign (length t) whole t (omega (arith, ap length (run-all r h), r .many)))
 
-  pub fraction-stopped : {sum places next : ℕ} → Ran s from v sum places next → next < length s → Refused ≡ numberRead (minusIf below) (length (unblanked (drop from s))) whole (unblanked (drop from s))
+  pub fraction-stopped : {sum places next : ℕ} → Ran s from v sum places next → next < length s → Refused ≡ numberRead sign (length (unblanked (drop from s))) whole (unblanked (drop from s))
   fraction-stopped r h =
       let t : List ℕ = unblanked (drop from s) in
-      run-stopped {s = s} {from = from} below (length t) whole t whole refl d hv r h
+      run-stopped {s = s} {from = from} sign (length t) whole t whole refl d hv r h
 
-  pub fraction-over : RunTooLarge s from v → Refused ≡ numberRead (minusIf below) (length (unblanked (drop from s))) whole (unblanked (drop from s))
+  pub fraction-over : RunTooLarge s from v → Refused ≡ numberRead sign (length (unblanked (drop from s))) whole (unblanked (drop from s))
   fraction-over r =
       let t : List ℕ = unblanked (drop from s) in
-      run-over {s = s} {from = from} below (length t) whole t whole refl d hv r
+      run-over {s = s} {from = from} sign (length t) whole t whole refl d hv r
 
 -- ---- under F: up to the end, up to the point, up to another byte
 
-module _ {s : List ℕ} {from : ℕ} (below : Bool) (d : ℕ) where
-  pub units-ended : {sum count next : ℕ} → Ran s from 0 sum count next → length s ≤ next → cond (eqb count 0) Refused (Number (withSign below sum) d) ≡ readDigits (F d) (minusIf below) (unblanked (drop from s))
+module _ {s : List ℕ} {from : ℕ} (sign : Sign) (d : ℕ) where
+  pub units-ended : {sum count next : ℕ} → Ran s from 0 sum count next → length s ≤ next → cond (eqb count 0) Refused (Number (signed sign sum) d) ≡ readDigits (F d) sign (unblanked (drop from s))
   units-ended {sum} {count} {next} r h =
       let ds : List ℕ = r .digits in
-      let a : cond (eqb (0 + count) 0) Refused (Number (withSign below sum) d) ≡ numberRead (minusIf below) d ds [] =
-      run-ended {s = s} {from = from} below d ds [] [] (append-nil ds ∙ sym (run-all r h)) tt value-none r h (omega arith) in
+      let a : cond (eqb (0 + count) 0) Refused (Number (signed sign sum) d) ≡ numberRead sign d ds [] =
+      run-ended {s = s} {from = from} sign d ds [] [] (append-nil ds ∙ sym (run-all r h)) tt value-none r h (omega arith) in
       (rw zero-add at a) ∙ rw (run-all r h) (simp (before-all ds (r .all), from-all ds (r .all)))
 
-  pub units-other : {sum count next : ℕ} → Ran s from 0 sum count next → next < length s → (getD s next 0 ≡ 46 → ⊥) → Refused ≡ readDigits (F d) (minusIf below) (unblanked (drop from s))
+  pub units-other : {sum count next : ℕ} → Ran s from 0 sum count next → next < length s → (getD s next 0 ≡ 46 → ⊥) → Refused ≡ readDigits (F d) sign (unblanked (drop from s))
   units-other {sum} {count} {next} r h n =
       let ds : List ℕ = r .digits in
       let c : ℕ = getD s next 0 in
@@ -161,9 +155,9 @@ module _ {s : List ℕ} {from : ℕ} (below : Bool) (d : ℕ) where
       let y : List ℕ = drop 1 (fromPoint (ds ++ (c ∷ t))) in
       let b : beforePoint (ds ++ (c ∷ t)) ++ y ≡ ds ++ (c ∷ (beforePoint t ++ y)) =
       rw (before-digits ds (c ∷ t) (r .all), before-other c t n) (append-assoc ds (c ∷ beforePoint t) y) in
-      rw (run-part r h) (sym (number-bad (minusIf below) (placesRead d (ds ++ (c ∷ t))) (beforePoint (ds ++ (c ∷ t))) y ds c (beforePoint t ++ y) b (r .no-digit h)))
+      rw (run-part r h) (sym (number-bad sign (placesRead d (ds ++ (c ∷ t))) (beforePoint (ds ++ (c ∷ t))) y ds c (beforePoint t ++ y) b (r .no-digit h)))
 
-  pub units-pointed : {sum count next : ℕ} (r : Ran s from 0 sum count next) → next < length s → getD s next 0 ≡ 46 → numberRead (minusIf below) (length (unblanked (drop (next + 1) s))) (r .digits) (unblanked (drop (next + 1) s)) ≡ readDigits (F d) (minusIf below) (unblanked (drop from s))
+  pub units-pointed : {sum count next : ℕ} (r : Ran s from 0 sum count next) → next < length s → getD s next 0 ≡ 46 → numberRead sign (length (unblanked (drop (next + 1) s))) (r .digits) (unblanked (drop (next + 1) s)) ≡ readDigits (F d) sign (unblanked (drop from s))
   units-pointed {sum} {count} {next} r h e =
       let ds : List ℕ = r .digits in
       let y : List ℕ = unblanked (drop (next + 1) s) in
@@ -171,10 +165,10 @@ module _ {s : List ℕ} {from : ℕ} (below : Bool) (d : ℕ) where
       let f : fromPoint (ds ++ (46 ∷ y)) ≡ 46 ∷ y = from-digits ds (46 ∷ y) (r .all) ∙ at-point y .1 in
       rw (run-part r h, e) (simp (b, f, lt-ltb 0 (suc (length y)) (omega arith)))
 
-  pub units-over : RunTooLarge s from 0 → Refused ≡ readDigits (F d) (minusIf below) (unblanked (drop from s))
+  pub units-over : RunTooLarge s from 0 → Refused ≡ readDigits (F d) sign (unblanked (drop from s))
   units-over r =
       let ds : List ℕ = r .digits in
       let y : List ℕ = drop 1 (fromPoint (ds ++ r .more)) in
       let b : beforePoint (ds ++ r .more) ++ y ≡ ds ++ (beforePoint (r .more) ++ y) =
       rw (before-digits ds (r .more) (r .all)) (append-assoc ds (beforePoint (r .more)) y) in
-      rw (r .rest) (sym (number-over (minusIf below) (placesRead d (ds ++ r .more)) (beforePoint (ds ++ r .more)) y ds (beforePoint (r .more) ++ y) b (omega (arith, r .high))))
+      rw (r .rest) (sym (number-over sign (placesRead d (ds ++ r .more)) (beforePoint (ds ++ r .more)) y ds (beforePoint (r .more) ++ y) b (omega (arith, r .high))))

@@ -10,13 +10,16 @@ use borrow.Author.Tests.{ne-eqb, lt-ltb, le-leb, lt-leb, leb-true}
 use lib.Dec.{leb, eqb, ltb}
 use lib.ListN.{length}
 use Rattle.number.specs.Limits.{largest}
-use Rattle.number.specs.Magnitude.{withSign}
 use Rattle.number.specs.Digits.{Digits, allDigits, value}
+use mir.Syntax.{w64}
+use mir.Val.{SFits}
+use Rattle.number.proofs.SignLaws.{with-fits}
 use Rattle.number.proofs.PowerLaws.{ten-pos}
 use Rattle.number.proofs.DigitLaws.{value-append, all-digits}
-use Rattle.field_written.specs.Numeral.{Numeric, I, F, Sign, none, plus, signed}
-use Rattle.field_written.specs.Written.{minusIf}
-use Rattle.field_read.specs.Read.{beforePoint, fromPoint, numberRead, readDigits}
+use Rattle.field_written.specs.Numeral.{signed}
+use Rattle.field_written.specs.declared.Sign.{Sign}
+use Rattle.field_written.specs.declared.Sign.the-variants.{None, Plus, Minus}
+use Rattle.field_read.specs.Read.{beforePoint, fromPoint, numberRead}
 use Rattle.field_read.specs.declared.FieldRead.the-variants.{Number, Refused}
 
 -- no digit
@@ -68,14 +71,10 @@ module _ (s : Sign) (p : ℕ) (x y : List ℕ) where
 
 -- ---- the sign
 
-pub signed-as : (below : Bool) (m : ℕ) → withSign below m ≡ signed (minusIf below) m
-signed-as true m = refl
-signed-as false m = refl
-
-pub plus-none : (f : Numeric) (t : List ℕ) → readDigits f plus t ≡ readDigits f none t
-unfolding numberRead
-plus-none I t = refl
-plus-none (F d) t = refl
+pub signed-fits : (s : Sign) (m : ℕ) → m ≤ largest → SFits w64 (signed s m)
+signed-fits None m h = with-fits false m h
+signed-fits Plus m h = with-fits false m h
+signed-fits Minus m h = with-fits true m h
 
 -- ---- the point
 

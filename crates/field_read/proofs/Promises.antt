@@ -14,7 +14,9 @@ use Rattle.number.specs.Limits.{largest, mostPlaces}
 use Rattle.number.specs.Digits.{Digits, value}
 use Rattle.number.specs.Rounding.{roundedUnits}
 use Rattle.number.proofs.DigitLaws.{digits-append}
-use Rattle.field_written.specs.Numeral.{Setting, Numeric, I, F, places, point, Sign, none, plus, minus, signBytes, signed, Numeral, characters, standsFor}
+use Rattle.field_written.specs.Numeral.{Setting, Numeric, I, F, places, point, signBytes, signed, Numeral, characters, standsFor}
+use Rattle.field_written.specs.declared.Sign.{Sign}
+use Rattle.field_written.specs.declared.Sign.the-variants.{None, Plus, Minus}
 use Rattle.field_written.specs.Written.{field, starred, decimalField, putRefusal, putStarred}
 use Rattle.field_written.proofs.Promises.{unstarred-is-numeral, Case, large, narrow-case, wide-case, case-of, clash, small-units}
 use Rattle.field_read.specs.Read.{unblanked, beforePoint, fromPoint, numberRead, placesRead, readDigits, readField, readRefusal, readUnits, readPlaces, Gives, shownUnits, shownPlaces}
@@ -29,9 +31,9 @@ use Rattle.field_read.proofs.Cases.{read-some}
 
 unblanked-sign : (s : Sign) → unblanked (signBytes s) ≡ signBytes s
 unfolding unblanked
-unblanked-sign none = refl
-unblanked-sign plus = refl
-unblanked-sign minus = refl
+unblanked-sign None = refl
+unblanked-sign Plus = refl
+unblanked-sign Minus = refl
 
 unblanked-point : (f : Numeric) → unblanked (point f) ≡ point f
 unfolding unblanked
@@ -45,10 +47,10 @@ unblanked-numeral {g} {f} t =
 -- ---- the digits and the point
 
 natAbs-signed : (s : Sign) (m : ℕ) → natAbs (signed s m) ≡ m
-natAbs-signed none m = refl
-natAbs-signed plus m = refl
-natAbs-signed minus zero = refl
-natAbs-signed minus (suc m) = refl
+natAbs-signed None m = refl
+natAbs-signed Plus m = refl
+natAbs-signed Minus zero = refl
+natAbs-signed Minus (suc m) = refl
 
 -- one digit at least, within the limits
 good : (s : Sign) (p : ℕ) (x y : List ℕ) → Digits x → Digits y → 0 < length x + length y → length y ≤ 9 → value (x ++ y) ≤ largest → numberRead s p x y ≡ Number (signed s (value (x ++ y))) p
@@ -80,12 +82,12 @@ begins I [] (c ∷ y) a b n = record { first = c; rest = y; is = refl; high = om
 begins (F d) [] y a b n = record { first = 46; rest = y; is = refl; high = omega arith }
 
 sign-read : (f : Numeric) (s : Sign) (t r : List ℕ) → Begins r → unblanked t ≡ signBytes s ++ r → readField f t ≡ readDigits f s r
-sign-read f none t r h e =
+sign-read f None t r h e =
     let c : ℕ = h .first in
     read-some f t c (h .rest) (e ∙ h .is)
     ∙ rw (h .is) (simp (ne-eqb c 43 (λ q. omega (arith, h .high)), ne-eqb c 45 (λ q. omega (arith, h .high))))
-sign-read f plus t r h e = read-some f t 43 r e
-sign-read f minus t r h e = read-some f t 45 r e
+sign-read f Plus t r h e = read-some f t 43 r e
+sign-read f Minus t r h e = read-some f t 45 r e
 
 -- ---- the promises
 
@@ -127,12 +129,12 @@ unblanked-stars (suc w) = rw (unblanked-stars w)
 stars-read : (f : Numeric) (w : ℕ) → readField f (replicate (suc w) asterisk) ≡ Refused
 stars-read I w =
     read-some I (replicate (suc w) asterisk) asterisk (replicate w asterisk) (unblanked-stars (suc w))
-    ∙ number-bad none 0 (asterisk ∷ replicate w asterisk) [] [] asterisk (replicate w asterisk ++ []) refl (λ q. omega arith)
+    ∙ number-bad None 0 (asterisk ∷ replicate w asterisk) [] [] asterisk (replicate w asterisk ++ []) refl (λ q. omega arith)
 stars-read (F d) w =
     let t : List ℕ = asterisk ∷ replicate w asterisk in
     let y : List ℕ = drop 1 (fromPoint t) in
     read-some (F d) (replicate (suc w) asterisk) asterisk (replicate w asterisk) (unblanked-stars (suc w))
-    ∙ number-bad none (placesRead d t) (beforePoint t) y [] asterisk (beforePoint (replicate w asterisk) ++ y) (ap (λ (x : List ℕ). x ++ y) (before-other asterisk (replicate w asterisk) (λ q. omega arith))) (λ q. omega arith)
+    ∙ number-bad None (placesRead d t) (beforePoint t) y [] asterisk (beforePoint (replicate w asterisk) ++ y) (ap (λ (x : List ℕ). x ++ y) (before-other asterisk (replicate w asterisk) (λ q. omega arith))) (λ q. omega arith)
 
 pub stars-refused : StarsRefused
 stars-refused f zero h = absurd (not-suc-le-zero h)

@@ -11,7 +11,9 @@ use Rattle.buffer.specs.Characters.{blank, plusSign, minusSign, decimalPoint}
 use Rattle.number.specs.Limits.{largest, mostPlaces}
 use Rattle.number.specs.Digits.{allDigits, value}
 use Rattle.number.specs.Rounding.{roundedUnits}
-use Rattle.field_written.specs.Numeral.{Numeric, I, F, places, Sign, none, plus, minus, signBytes, signed}
+use Rattle.field_written.specs.Numeral.{Numeric, I, F, places, signBytes, signed}
+use Rattle.field_written.specs.declared.Sign.{Sign}
+use Rattle.field_written.specs.declared.Sign.the-variants.{None, Plus, Minus}
 use Rattle.field_read.specs.declared.FieldRead.{FieldRead}
 use Rattle.field_read.specs.declared.FieldRead.the-variants.{Number, Refused}
 
@@ -22,8 +24,8 @@ unblanked (x ∷ xs) = cond (eqb x blank) (unblanked xs) (x ∷ unblanked xs)
 
 -- 'optional sign': the sign in front, and what stands after it
 abbrev pub signOf : List ℕ → Sign
-signOf [] = none
-signOf (x ∷ xs) = cond (eqb x plusSign) plus (cond (eqb x minusSign) minus none)
+signOf [] = None
+signOf (x ∷ xs) = cond (eqb x plusSign) Plus (cond (eqb x minusSign) Minus None)
 
 abbrev pub afterSign : List ℕ → List ℕ
 afterSign t = drop (length (signBytes (signOf t))) t
@@ -38,8 +40,8 @@ unfoldable pub fromPoint : List ℕ → List ℕ
 fromPoint [] = []
 fromPoint (x ∷ xs) = cond (eqb x decimalPoint) (x ∷ xs) (fromPoint xs)
 
--- the number with p places that the digits before and after a point make: 'at least one digit', the count after the
--- point 'at most 9', 'magnitude of n or units at most 10^18 − 1'; else it is refused
+-- the number with p places that the digits before and after a point make: digits and nothing else, 'at least one digit',
+-- the count after the point 'at most 9', 'magnitude of n or units at most 10^18 − 1'; else it is refused
 unfoldable pub numberRead : Sign → ℕ → List ℕ → List ℕ → FieldRead
 numberRead sign p whole fraction =
     cond (ltb 0 (length (whole ++ fraction)) && allDigits (whole ++ fraction) && leb (length fraction) mostPlaces && leb (value (whole ++ fraction)) largest)
@@ -73,7 +75,7 @@ abbrev pub readPlaces : FieldRead → ℕ
 readPlaces (Number u p) = p
 readPlaces Refused = 0
 
--- an answer that is not refused gives these units and places
+-- the answer is no refusal, and gives these units and places
 pub record Gives (r : FieldRead) (u : ℤ) (p : ℕ) : Type 0 where
   pub accepted : readRefusal r ≡ 0
   pub units : readUnits r ≡ u

@@ -2,14 +2,13 @@
 -- promise does.
 -- Assumes nothing.
 use mathlib.Core.Path.{_≡_}
-use mathlib.Core.Bool.{Bool, true, false}
 use mathlib.Core.List.{List, [], _++_}
 use Prim.Native.Nat.{ℕ, _+_, _*_, _^_, _<_, _≤_}
 use lib.ListN.{length, drop, getD}
 use Rattle.buffer.specs.Characters.{blank, digitZero, digitNine}
 use Rattle.number.specs.Limits.{largest}
 use Rattle.number.specs.Digits.{Digits, value}
-use Rattle.field_written.specs.Numeral.{Sign, none, plus, minus}
+use Rattle.field_written.specs.declared.Sign.{Sign}
 use Rattle.field_read.specs.Read.{unblanked, signOf, afterSign}
 use Rattle.field_read.specs.declared.Front.{Front}
 use Rattle.field_read.specs.declared.Front.the-variants.{Nothing, Found}
@@ -22,21 +21,16 @@ pub record Skipped (s : List ℕ) (to : ℕ) : Type 0 where
   pub same : unblanked s ≡ unblanked (drop to s)
   pub stop : to < length s → getD s to 0 ≡ blank → ⊥
 
-abbrev pub isMinus : Sign → Bool
-isMinus none = false
-isMinus plus = false
-isMinus minus = true
-
--- something is left of s without its blanks: a minus or none, and what follows the sign stands from `from` on, blanks aside
-pub record Signed (s : List ℕ) (minus-read : Bool) (from : ℕ) : Type 0 where
+-- something is left of s without its blanks: the sign, and what follows it stands from `from` on, blanks aside
+pub record Signed (s : List ℕ) (sign : Sign) (from : ℕ) : Type 0 where
   pub past : from ≤ length s
   pub some : 0 < length (unblanked s)
-  pub sign : minus-read ≡ isMinus (signOf (unblanked s))
+  pub sign-is : sign ≡ signOf (unblanked s)
   pub rest : afterSign (unblanked s) ≡ unblanked (drop from s)
 
 abbrev pub FrontIs : List ℕ → Front → Type 0
 FrontIs s Nothing = unblanked s ≡ []
-FrontIs s (Found m from) = Signed s m from
+FrontIs s (Found sign from) = Signed s sign from
 
 -- from `from` on stand `count` digits, blanks among them, which after the number v make the number m; at `next` stands
 -- something else, or s ends. (`fewer`: so that `count` does not overflow.)

@@ -5,23 +5,23 @@ use crate::Run;
 use crate::answer::number_of;
 use crate::digits::read_run;
 use crate::leading::read_front;
+use field_written::Sign;
 use number::MOST_PLACES;
 ghost use mathlib.Core.Path.{_≡_};
 ghost use Prim.Native.Nat.{_≤_};
 ghost use lib.ListN.{length, drop};
 ghost use Rattle.field_written.specs.Numeral.{F};
-ghost use Rattle.field_written.specs.Written.{minusIf};
 ghost use Rattle.field_read.specs.Read.{unblanked, readDigits, readField};
 
 // The digits of a decimal, with a point or d places, from `from` on.
-fn read_units(part: &[u8], from: usize, minus: bool, d: usize) -> FieldRead
+fn read_units(part: &[u8], from: usize, sign: Sign, d: usize) -> FieldRead
     requires { ⌜ from ≤ length (now part) ⌝ }
-    ensures { λ r. ⌜ r ≡ readDigits (F d) (minusIf minus) (unblanked (drop from (now (part .entry)))) ⌝ }
+    ensures { λ r. ⌜ r ≡ readDigits (F d) sign (unblanked (drop from (now (part .entry)))) ⌝ }
 {
     match read_run(part, from, 0) {
         Run::Digits { value, count, next } => {
             if part.len() <= next {
-                return number_of(count, minus, value, d);
+                return number_of(count, sign, value, d);
             }
             if part[next] != b'.' {
                 return FieldRead::Refused;
@@ -38,7 +38,7 @@ fn read_units(part: &[u8], from: usize, minus: bool, d: usize) -> FieldRead
                     if MOST_PLACES < places {
                         return FieldRead::Refused;
                     }
-                    number_of(count + places, minus, units, places)
+                    number_of(count + places, sign, units, places)
                 }
                 Run::TooLarge => FieldRead::Refused,
             }
@@ -56,6 +56,6 @@ pub fn read_decimal(part: &[u8], d: usize) -> FieldRead
             units: 0,
             places: d,
         },
-        Front::Found { minus, from } => read_units(part, from, minus, d),
+        Front::Found { sign, from } => read_units(part, from, sign, d),
     }
 }

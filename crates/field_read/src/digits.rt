@@ -7,7 +7,7 @@ ghost use lib.ListN.{length};
 ghost use Rattle.number.specs.Limits.{largest};
 ghost use Rattle.field_read.specs.Steps.{RunIs};
 
-// A byte as a u64; a cast of an element would ask for a proof at each use.
+// A byte as a u64.
 fn wide(b: u8) -> u64
     ensures { λ r. ⌜ r ≡ b ⌝ }
 {

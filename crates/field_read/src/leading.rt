@@ -1,5 +1,6 @@
 // The blanks and the sign in front of the digits.
 use crate::Front;
+use field_written::Sign;
 ghost use Rattle.field_read.specs.Steps.{Skipped, FrontIs};
 
 // The first offset that is not blank.
@@ -27,18 +28,18 @@ pub fn read_front(part: &[u8]) -> Front
     let b = part[at];
     if b == b'+' {
         return Front::Found {
-            minus: false,
+            sign: Sign::Plus,
             from: at + 1,
         };
     }
     if b == b'-' {
         return Front::Found {
-            minus: true,
+            sign: Sign::Minus,
             from: at + 1,
         };
     }
     Front::Found {
-        minus: false,
+        sign: Sign::None,
         from: at,
     }
 }

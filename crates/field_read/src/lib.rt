@@ -5,19 +5,22 @@ mod digits;
 pub mod integer;
 mod leading;
 
+use field_written::Sign;
+
 // A field read: units and places (0 under I), or no number.
 pub enum FieldRead {
     Number { units: i64, places: usize },
     Refused,
 }
 
-// A field that is all blank; or whether a minus stands in front, and the offset after the sign.
+// A field that is all blank; or the sign in front, and the offset after it.
 enum Front {
     Nothing,
-    Found { minus: bool, from: usize },
+    Found { sign: Sign, from: usize },
 }
 
-// A run of digits: the number that they make, how many they are, and the offset after them.
+// A run of digits: the number that they make after a number before, how many they are, and the offset after them and
+// the blanks that follow.
 enum Run {
     Digits {
         value: u64,

@@ -16,15 +16,16 @@ use Rattle.number.specs.declared.Rounded.the-variants.{Units, TooLarge}
 use Rattle.number.proofs.RoundingLaws.{units-of, large-of}
 use Rattle.number.proofs.SignLaws.{natAbs-with}
 use Rattle.field_written.specs.Numeral.{Numeric, F, plain}
+use Rattle.field_written.specs.declared.Sign.{Sign}
 use Rattle.field_written.specs.Written.{minusIf, fewestColumns, fieldText, field, starred, putDecimal, afterDecimal}
 use Rattle.field_written.specs.declared.Put.the-variants as put
 use Rattle.field_written.proofs.Cases.{stars}
 
 -- ---- the field of n by its sign and magnitude, and the columns that it needs
 
-module _ (f : Numeric) (w : ℕ) (n : ℤ) {b : Bool} {m need : ℕ} (hb : b ≡ negative n) (hm : m ≡ natAbs n) (hn : need ≡ fewestColumns f (minusIf b) m) where
+module _ (f : Numeric) (w : ℕ) (n : ℤ) {sign : Sign} {m need : ℕ} (hs : sign ≡ minusIf (negative n)) (hm : m ≡ natAbs n) (hn : need ≡ fewestColumns f sign m) where
   needs : fewestColumns f (minusIf (negative n)) (natAbs n) ≡ need
-  needs = sym (hn ∙ rw (hb, hm))
+  needs = sym (hn ∙ rw (hs, hm))
 
   pub number-starred : w < need → (true ≡ starred plain f w n) × (replicate w asterisk ≡ field plain f w n)
   unfolding starred field
@@ -33,11 +34,11 @@ module _ (f : Numeric) (w : ℕ) (n : ℤ) {b : Bool} {m need : ℕ} (hb : b ≡
     sym (stars f w (minusIf (negative n)) (natAbs n) (rw needs h)),
   )
 
-  pub number-shown : need ≤ w → (false ≡ starred plain f w n) × (fieldText f w (minusIf b) m ≡ field plain f w n)
+  pub number-shown : need ≤ w → (false ≡ starred plain f w n) × (fieldText f w sign m ≡ field plain f w n)
   unfolding starred field
   number-shown h = (
     sym (le-ltb w (fewestColumns f (minusIf (negative n)) (natAbs n)) (rw needs h)),
-    rw (hb, hm),
+    rw (hs, hm),
   )
 
 -- ---- a decimal
@@ -51,7 +52,7 @@ module _ (w d : ℕ) (u : ℤ) (s : ℕ) {m : ℕ} (hm : m ≡ natAbs u) where
       let k : roundedMagnitude (natAbs u) s d ≡ v = rw (← hm) (n .0) in
       (rw (k, f), simp (k, natAbs-with, le-ltb largest v (n .1)))
 
-  module _ {v need : ℕ} {below b : Bool} (q : roundingAnswer m s d ≡ Units v) (f : below ≡ negative u) (e : b ≡ negative (withSign below v)) (hn : need ≡ fewestColumns (F d) (minusIf b) v) where
+  module _ {v need : ℕ} {below : Bool} {sign : Sign} (q : roundingAnswer m s d ≡ Units v) (f : below ≡ negative u) (e : sign ≡ minusIf (negative (withSign below v))) (hn : need ≡ fewestColumns (F d) sign v) where
     pub decimal-starred : w < need → (put.Starred ≡ putDecimal plain w d u s) × ((bytes : List ℕ) (at : ℕ) → splice bytes at (replicate w asterisk) ≡ afterDecimal plain bytes at w d u s)
     unfolding putDecimal afterDecimal
     decimal-starred h =
@@ -59,7 +60,7 @@ module _ (w d : ℕ) (u : ℤ) (s : ℕ) {m : ℕ} (hm : m ≡ natAbs u) where
         let k = number-starred (F d) w (withSign below v) e (sym (natAbs-with below v)) hn h in
         (rw (r .1, r .0, ← k .0), λ bytes at. rw (r .1, r .0, ← k .1))
 
-    pub decimal-shown : need ≤ w → (put.Shown ≡ putDecimal plain w d u s) × ((bytes : List ℕ) (at : ℕ) → splice bytes at (fieldText (F d) w (minusIf b) v) ≡ afterDecimal plain bytes at w d u s)
+    pub decimal-shown : need ≤ w → (put.Shown ≡ putDecimal plain w d u s) × ((bytes : List ℕ) (at : ℕ) → splice bytes at (fieldText (F d) w sign v) ≡ afterDecimal plain bytes at w d u s)
     unfolding putDecimal afterDecimal
     decimal-shown h =
         let r = rounds q f in

@@ -14,7 +14,8 @@ use Rattle.number.specs.Limits.{largest}
 use Rattle.number.specs.Digits.{digitsOf, digitCount}
 use Rattle.number.proofs.PowerLaws.{ten-pos}
 use Rattle.number.proofs.DigitLaws.{length-digits, digits-cut, digitCount-least, digitCount-holds, digitCount-pos}
-use Rattle.field_written.specs.Numeral.{Numeric, I, F, places, point, Sign, signBytes, layout}
+use Rattle.field_written.specs.Numeral.{Numeric, I, F, places, point, signBytes, layout}
+use Rattle.field_written.specs.declared.Sign.{Sign}
 use Rattle.field_written.specs.Written.{mostDigits, fewestDigits, numeralText, fieldText, fewestColumns}
 use Rattle.field_written.proofs.Fewest.{wholePart, most-holds, most-zero, most-some, fewest-most, fewest-holds, fewest-integer, fewest-none, fewest-some}
 
@@ -114,7 +115,7 @@ pub record Showing (w : ℕ) (sign : Sign) (d m s p k : ℕ) : Type 0 where
   pub fits : s + 1 + d + k ≤ w
   pub few : m ≤ largest → k < 19
   pub whole : m / p < 10 ^ k
-  pub fraction : m % p < 10 ^ d
+  pub fraction : m % p < p
   pub is : fieldText (F d) w sign m ≡ replicate (w - (s + 1 + d) - k) blank ++ layout (F d) 0 sign (digitsOf k (m / p)) (digitsOf d (m % p))
 
 module _ {w : ℕ} {sign : Sign} {d m s p need k : ℕ} (n : Counted w sign d m s p need k) where
@@ -142,7 +143,7 @@ module _ {w : ℕ} {sign : Sign} {d m s p need k : ℕ} (n : Counted w sign d m 
         fits = r;
         few = λ h. omega (arith, most-low h);
         whole = rw (n .power) q;
-        fraction = rw (n .power) (mod-lt m (ten-pos d));
+        fraction = mod-lt m (rw (n .power) (ten-pos d));
         is = e ∙ text-is;
       }
 

@@ -19,9 +19,9 @@ pub record Made (d₀ : List ℕ) (at k m : ℕ) (d : List ℕ) (p rest i : ℕ)
   pub power : p ≡ 10 ^ (k - i) / 10
   pub left : rest ≡ m % 10 ^ (k - i)
 
-pub made-none : {d : List ℕ} {at k m q : ℕ} → at + k ≤ length d → m < 10 ^ k → q ≡ 10 ^ k → Made d at k m d (q / 10) m 0
-made-none {d} {at} {k} {m} {q} h g e =
-    record { laid = written-none (length-digits k m) h; power = rw (sub-zero, e); left = rw sub-zero (sym (mod-eq-of-lt g)) }
+pub made-none : {d : List ℕ} {at k m q : ℕ} → at + k ≤ length d → q ≡ 10 ^ k → m < q → Made d at k m d (q / 10) m 0
+made-none {d} {at} {k} {m} {q} h e g =
+    record { laid = written-none (length-digits k m) h; power = rw (sub-zero, e); left = rw sub-zero (sym (mod-eq-of-lt (rw e at g))) }
 
 -- a tenth of a power
 tenth : (j : ℕ) → 10 ^ suc j / 10 ≡ 10 ^ j

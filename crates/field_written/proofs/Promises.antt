@@ -20,7 +20,9 @@ use Rattle.number.specs.Digits.{Digits, value, digitsOf}
 use Rattle.number.specs.Rounding.{Nearest, roundedUnits, tooLarge}
 use Rattle.number.proofs.RoundingLaws.{rounded-is}
 use Rattle.number.proofs.DigitLaws.{length-digits, digits-are, value-digits, value-below, value-append, no-zero, digits-cut, digits-unique, digits-exact}
-use Rattle.field_written.specs.Numeral.{Numeric, I, F, places, point, Sign, none, plus, minus, signBytes, signed, layout, Setting, plain, Permitted, Numeral, characters, standsFor}
+use Rattle.field_written.specs.Numeral.{Numeric, I, F, places, point, signBytes, signed, layout, Setting, plain, Permitted, Numeral, characters, standsFor}
+use Rattle.field_written.specs.declared.Sign.{Sign}
+use Rattle.field_written.specs.declared.Sign.the-variants.{None, Plus, Minus}
 use Rattle.field_written.specs.Written.{signFor, mostDigits, fewestDigits, numeralText, fieldText, fewestColumns, field, starred, putDecimal, afterDecimal, putRefusal, putStarred}
 use Rattle.field_written.specs.Promises.{FieldLength, StarredIs, StarsExactlyWhen, AsWritten, UnstarredIsNumeral, FieldOnly, DecimalRefusedWhen, DecimalRefusedLeaves, DecimalStarsExactlyWhen, DecimalStarred, DecimalShown}
 use Rattle.field_written.specs.declared.Put.{Put}
@@ -40,10 +42,10 @@ permits plain n x y = tt
 
 -- any sign that makes n is as long at least
 sign-needed : (g : Setting) (n : ℤ) (s : Sign) (v : ℕ) → signed s v ≡ n → (natAbs n ≡ v) × (length (signBytes (signFor g n)) ≤ length (signBytes s))
-sign-needed plain n none v e = rw (← e) (refl, omega arith)
-sign-needed plain n plus v e = rw (← e) (refl, omega arith)
-sign-needed plain n minus zero e = rw (← e) (refl, omega arith)
-sign-needed plain n minus (suc v) e = rw (← e) (refl, omega arith)
+sign-needed plain n None v e = rw (← e) (refl, omega arith)
+sign-needed plain n Plus v e = rw (← e) (refl, omega arith)
+sign-needed plain n Minus zero e = rw (← e) (refl, omega arith)
+sign-needed plain n Minus (suc v) e = rw (← e) (refl, omega arith)
 
 -- ---- a field that is not starred
 
@@ -379,9 +381,9 @@ pub decimal-shown : DecimalShown
 unfolding afterDecimal
 decimal-shown g buffer at w d u s h k = go (case-of g w d u s)
   where
-    go : Case g w d u s → (t : Numeral g (F d) w) × (afterDecimal g buffer at w d u s ≡ splice buffer at (characters t)) × (Nearest u s d (standsFor t))
+    go : Case g w d u s → (t : Numeral g (F d) w) × (afterDecimal g buffer at w d u s ≡ splice buffer at (characters t)) × (Nearest u s d (standsFor t)) × (AsWritten g (F d) w (standsFor t) t)
     go (large p e) = clash putRefusal e h (λ z. omega arith)
     go (narrow-case p q e) = clash putStarred e k (λ z. omega arith)
     go (wide-case p q e) =
         let t = unstarred-is-numeral g (F d) w (roundedUnits u s d) q in
-        (t .0, rw (p, ← t .1), rounded-is u s d (standsFor (t .0)) .1 (t .2 .stands))
+        (t .0, rw (p, ← t .1), rounded-is u s d (standsFor (t .0)) .1 (t .2 .stands), subst (λ (n : ℤ). AsWritten g (F d) w n (t .0)) (sym (t .2 .stands)) (t .2))

@@ -7,6 +7,8 @@ use lib.ListN.{length, replicate}
 use lib.IntN.{ℤ, pos, negℤ}
 use Rattle.buffer.specs.Characters.{blank, plusSign, minusSign, decimalPoint}
 use Rattle.number.specs.Digits.{Digits, value}
+use Rattle.field_written.specs.declared.Sign.{Sign}
+use Rattle.field_written.specs.declared.Sign.the-variants.{None, Plus, Minus}
 
 -- the descriptor of a numeric field, its width aside: Iw, and Fw.d
 pub data Numeric : Type 0 where
@@ -24,19 +26,16 @@ point I = []
 point (F d) = decimalPoint ∷ []
 
 -- '+ or − or no sign'
-pub data Sign : Type 0 where
-  none plus minus : Sign
-
 abbrev pub signBytes : Sign → List ℕ
-signBytes none = []
-signBytes plus = plusSign ∷ []
-signBytes minus = minusSign ∷ []
+signBytes None = []
+signBytes Plus = plusSign ∷ []
+signBytes Minus = minusSign ∷ []
 
 -- 'negated after −'
 abbrev pub signed : Sign → ℕ → ℤ
-signed none m = pos m
-signed plus m = pos m
-signed minus m = negℤ (pos m)
+signed None m = pos m
+signed Plus m = pos m
+signed Minus m = negℤ (pos m)
 
 -- blanks, a sign, digits, and for F a point and digits
 abbrev pub layout : Numeric → ℕ → Sign → List ℕ → List ℕ → List ℕ

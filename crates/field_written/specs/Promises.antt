@@ -22,7 +22,7 @@ FieldLength = (g : Setting) (f : Numeric) (w : ℕ) (n : ℤ) → length (field 
 abbrev pub StarredIs : Type 0
 StarredIs = (g : Setting) (f : Numeric) (w : ℕ) (n : ℤ) → (starred g f w n ≡ true) ↔ (field g f w n ≡ replicate w asterisk)
 
--- Demand 3 at one field: it is w asterisks exactly when no numeral of width w stands for the value
+-- Demand 3 of the order at one field: it is w asterisks exactly when no numeral of width w stands for the value
 -- (n for I, the rounded units for F)
 abbrev pub StarsExactlyWhen : Type 0
 StarsExactlyWhen =
@@ -34,9 +34,9 @@ StarsExactlyWhen =
 pub record AsWritten (g : Setting) (f : Numeric) (w : ℕ) (n : ℤ) (t : Numeral g f w) : Type 0 where
   pub stands : standsFor t ≡ n
   pub signed-so : t .sign ≡ signFor g n
-  -- a zero in front is the only digit there
+  -- a zero in front is the only digit before the point (for I: the only digit)
   pub no-leading-zero : (rest : List ℕ) → t .whole ≡ digitZero ∷ rest → rest ≡ []
-  -- no digit stands before the point only where no column is free
+  -- there is a digit before the point where a blank stands in front
   pub zero-if-free : t .whole ≡ [] → t .blanks ≡ 0
 
 -- a field that is not starred is a numeral of width w that stands for the value, written so
@@ -44,31 +44,34 @@ abbrev pub UnstarredIsNumeral : Type 0
 UnstarredIsNumeral =
     (g : Setting) (f : Numeric) (w : ℕ) (n : ℤ) → starred g f w n ≡ false → (t : Numeral g f w) × (characters t ≡ field g f w n) × (AsWritten g f w n t)
 
--- and there is no other
+-- and every numeral written so is the field
 abbrev pub FieldOnly : Type 0
 FieldOnly = (g : Setting) (f : Numeric) (w : ℕ) (n : ℤ) (t : Numeral g f w) → AsWritten g f w n t → characters t ≡ field g f w n
 
 -- ---- the decimal u / 10^s under Fw.d, without the closed form of rounding
 
--- refusal 11: no number is the decimal rounded to d places within the largest magnitude; the buffer is then as it was
+-- refusal 11 exactly when the decimal rounded to d places is beyond the largest magnitude
 abbrev pub DecimalRefusedWhen : Type 0
 DecimalRefusedWhen =
     (g : Setting) (w d : ℕ) (u : ℤ) (s : ℕ) → (putRefusal (putDecimal g w d u s) ≡ 11) ↔ ((r : ℤ) → Nearest u s d r → natAbs r ≤ largest → ⊥)
 
+-- and then the buffer is as it was
 abbrev pub DecimalRefusedLeaves : Type 0
 DecimalRefusedLeaves =
     (g : Setting) (buffer : List ℕ) (at w d : ℕ) (u : ℤ) (s : ℕ) → putRefusal (putDecimal g w d u s) ≡ 11 → afterDecimal g buffer at w d u s ≡ buffer
 
 -- demand 3 for F: where it is not refused, it is starred exactly when no numeral of width w stands for the decimal
--- rounded to d places; the field is then w asterisks, and else a numeral that does
+-- rounded to d places
 abbrev pub DecimalStarsExactlyWhen : Type 0
 DecimalStarsExactlyWhen =
     (g : Setting) (w d : ℕ) (u : ℤ) (s : ℕ) → putRefusal (putDecimal g w d u s) ≡ 0 → (putStarred (putDecimal g w d u s) ≡ 1) ↔ ((t : Numeral g (F d) w) → Nearest u s d (standsFor t) → ⊥)
 
+-- the field is then w asterisks
 abbrev pub DecimalStarred : Type 0
 DecimalStarred =
     (g : Setting) (buffer : List ℕ) (at w d : ℕ) (u : ℤ) (s : ℕ) → putStarred (putDecimal g w d u s) ≡ 1 → afterDecimal g buffer at w d u s ≡ splice buffer at (replicate w asterisk)
 
+-- and else the numeral that stands for it, as document 01 has it
 abbrev pub DecimalShown : Type 0
 DecimalShown =
-    (g : Setting) (buffer : List ℕ) (at w d : ℕ) (u : ℤ) (s : ℕ) → putRefusal (putDecimal g w d u s) ≡ 0 → putStarred (putDecimal g w d u s) ≡ 0 → (t : Numeral g (F d) w) × (afterDecimal g buffer at w d u s ≡ splice buffer at (characters t)) × (Nearest u s d (standsFor t))
+    (g : Setting) (buffer : List ℕ) (at w d : ℕ) (u : ℤ) (s : ℕ) → putRefusal (putDecimal g w d u s) ≡ 0 → putStarred (putDecimal g w d u s) ≡ 0 → (t : Numeral g (F d) w) × (afterDecimal g buffer at w d u s ≡ splice buffer at (characters t)) × (Nearest u s d (standsFor t)) × (AsWritten g (F d) w (standsFor t) t)

@@ -11,7 +11,9 @@ use Rattle.buffer.specs.Splice.{splice}
 use Rattle.number.specs.Magnitude.{negative}
 use Rattle.number.specs.Digits.{digitsOf, digitCount}
 use Rattle.number.specs.Rounding.{roundedUnits, tooLarge}
-use Rattle.field_written.specs.Numeral.{Numeric, I, F, places, Sign, none, minus, layout, Setting, plain}
+use Rattle.field_written.specs.Numeral.{Numeric, I, F, places, layout, Setting, plain}
+use Rattle.field_written.specs.declared.Sign.{Sign}
+use Rattle.field_written.specs.declared.Sign.the-variants.{None, Minus}
 use Rattle.field_written.specs.declared.Put.{Put}
 use Rattle.field_written.specs.declared.Put.the-variants.{Shown, Starred, TooLarge}
 
@@ -34,7 +36,7 @@ numeralText f sign k m = layout f 0 sign (digitsOf k (m / 10 ^ places f)) (digit
 abbrev pub justified : ℕ → List ℕ → List ℕ
 justified w t = replicate (w - length t) blank ++ t
 
--- with the zero 'where a column is free', else without it, else 'w asterisks': the first that has room.
+-- with the zero 'where a column is free', else without it, else 'w asterisks': the first that fits.
 -- (The law `StarsExactlyWhen` of `Promises`: asterisks exactly 'if no numeral of width w stands for the value'.)
 unfoldable pub fieldText : Numeric → ℕ → Sign → ℕ → List ℕ
 fieldText f w sign m =
@@ -48,8 +50,8 @@ fewestColumns f sign m = length (numeralText f sign (fewestDigits f m) m)
 -- ---- the field of a value: n for I, the rounded units for F
 
 abbrev pub minusIf : Bool → Sign
-minusIf true = minus
-minusIf false = none
+minusIf true = Minus
+minusIf false = None
 
 -- 'with − exactly for a value below zero after rounding, never +'
 abbrev pub signFor : Setting → ℤ → Sign
@@ -59,7 +61,7 @@ signFor plain n = minusIf (negative n)
 unfoldable pub field : Setting → Numeric → ℕ → ℤ → List ℕ
 field g f w n = fieldText f w (signFor g n) (natAbs n)
 
--- Term 'starred': no text has room, so that the field is w asterisks (the law `StarredIs` of `Promises`)
+-- Term 'starred': no text fits, so that the field is w asterisks (the law `StarredIs` of `Promises`)
 unfoldable pub starred : Setting → Numeric → ℕ → ℤ → Bool
 starred g f w n = ltb w (fewestColumns f (signFor g n) (natAbs n))
 

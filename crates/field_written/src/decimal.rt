@@ -1,7 +1,9 @@
 // The decimal field.
 use crate::Put;
+use crate::Sign;
 use crate::columns::decimal_columns;
 use crate::columns::sign_width;
+use crate::parts::minus_if;
 use crate::parts::put_digits;
 use crate::parts::put_sign;
 use number::Rounded;
@@ -15,18 +17,27 @@ ghost use Rattle.buffer.specs.Splice.{splice};
 ghost use Rattle.number.specs.Limits.{largest, mostPlaces};
 ghost use Rattle.number.specs.Digits.{digitsOf};
 ghost use Rattle.field_written.specs.Numeral.{F, plain, signBytes, layout};
-ghost use Rattle.field_written.specs.Written.{minusIf, fewestColumns, fieldText, putDecimal, afterDecimal};
+ghost use Rattle.field_written.specs.Written.{fewestColumns, fieldText, putDecimal, afterDecimal};
 
-// A sign, the k digits of q, a point and the d digits of a fraction.
-fn put_numeral(dst: &mut [u8], at: usize, negative: bool, k: usize, q: u64, d: usize, fraction: u64)
-    requires { ⌜ (at + length (signBytes (minusIf negative)) + k + 1 + d ≤ length (now dst)) × (k < 19) × (q < 10 ^ k) × (d ≤ mostPlaces) × (fraction < 10 ^ d) ⌝ }
-    ensures { λ r. ⌜ now (dst .exit) ≡ splice (now (dst .entry)) at (layout (F d) 0 (minusIf negative) (digitsOf k q) (digitsOf d fraction)) ⌝ }
+// A sign, the k digits of q, a point and the d digits of a fraction; p is 10^d.
+fn put_numeral(
+    dst: &mut [u8],
+    at: usize,
+    sign: Sign,
+    k: usize,
+    q: u64,
+    d: usize,
+    p: u64,
+    fraction: u64,
+)
+    requires { ⌜ (at + length (signBytes sign) + k + 1 + d ≤ length (now dst)) × (k < 19) × (q < 10 ^ k) × (p ≡ 10 ^ d) × (fraction < p) ⌝ }
+    ensures { λ r. ⌜ now (dst .exit) ≡ splice (now (dst .entry)) at (layout (F d) 0 sign (digitsOf k q) (digitsOf d fraction)) ⌝ }
 {
-    let s = sign_width(negative);
-    put_sign(dst, at, negative);
-    put_digits(dst, at + s, k, q);
+    let s = sign_width(sign);
+    put_sign(dst, at, sign);
+    put_digits(dst, at + s, k, number::powers::power_of_ten(k), q);
     buffer::fill(dst, at + s + k, 1, b'.');
-    put_digits(dst, at + s + k + 1, d, fraction);
+    put_digits(dst, at + s + k + 1, d, p, fraction);
 }
 
 // The digits before the point: where there are none, a zero if a column is free.
@@ -43,24 +54,16 @@ fn shown_digits(few: usize, free: usize) -> usize
 }
 
 // The numeral, right justified; it takes `need` columns at least, which are there.
-fn put_decimal(
-    dst: &mut [u8],
-    at: usize,
-    width: usize,
-    need: usize,
-    negative: bool,
-    d: usize,
-    m: u64,
-)
-    requires { ⌜ (at + width ≤ length (now dst)) × (need ≤ width) × (need ≡ fewestColumns (F d) (minusIf negative) m) × (d ≤ mostPlaces) × (m ≤ largest) ⌝ }
-    ensures { λ r. ⌜ now (dst .exit) ≡ splice (now (dst .entry)) at (fieldText (F d) width (minusIf negative) m) ⌝ }
+fn put_decimal(dst: &mut [u8], at: usize, width: usize, need: usize, sign: Sign, d: usize, m: u64)
+    requires { ⌜ (at + width ≤ length (now dst)) × (need ≤ width) × (need ≡ fewestColumns (F d) sign m) × (d ≤ mostPlaces) × (m ≤ largest) ⌝ }
+    ensures { λ r. ⌜ now (dst .exit) ≡ splice (now (dst .entry)) at (fieldText (F d) width sign m) ⌝ }
 {
     let p = number::powers::power_of_ten(d);
-    let rest = sign_width(negative) + 1 + d;
+    let rest = sign_width(sign) + 1 + d;
     let k = shown_digits(need - rest, width - need);
     let blanks = width - rest - k;
     buffer::fill(dst, at, blanks, b' ');
-    put_numeral(dst, at + blanks, negative, k, m / p, d, m % p);
+    put_numeral(dst, at + blanks, sign, k, m / p, d, p, m % p);
 }
 
 // units / 10^places, rounded to d places, under Fw.d from offset at on.
@@ -75,18 +78,18 @@ pub fn write_decimal(
     requires { ⌜ (at + width ≤ length (now dst)) × (d ≤ mostPlaces) × (natAbs units ≤ largest) × (places ≤ mostPlaces) ⌝ }
     ensures { λ r. ⌜ (r ≡ putDecimal plain width d units places) × (now (dst .exit) ≡ afterDecimal plain (now (dst .entry)) at width d units places) ⌝ }
 {
-    let was_negative = number::sign::is_negative(units);
+    let negative = number::sign::is_negative(units);
     let m = number::sign::magnitude(units);
     let r = number::rounding::round(m, places, d);
     match r {
         Rounded::Units(v) => {
-            let negative = number::sign::stays_negative(was_negative, v);
-            let need = decimal_columns(negative, d, v);
+            let sign = minus_if(number::sign::stays_negative(negative, v));
+            let need = decimal_columns(sign, d, v);
             if width < need {
                 buffer::fill(dst, at, width, b'*');
                 return Put::Starred;
             }
-            put_decimal(dst, at, width, need, negative, d, v);
+            put_decimal(dst, at, width, need, sign, d, v);
             Put::Shown
         }
         Rounded::TooLarge => Put::TooLarge,

@@ -1,6 +1,8 @@
 // The integer field.
+use crate::Sign;
 use crate::columns::integer_columns;
 use crate::columns::sign_width;
+use crate::parts::minus_if;
 use crate::parts::put_digits;
 use crate::parts::put_sign;
 ghost use mathlib.Core.Path.{_≡_};
@@ -10,19 +12,19 @@ ghost use lib.IntN.{natAbs};
 ghost use Rattle.buffer.specs.Splice.{splice};
 ghost use Rattle.number.specs.Limits.{largest};
 ghost use Rattle.field_written.specs.Numeral.{I, plain};
-ghost use Rattle.field_written.specs.Written.{minusIf, fewestColumns, fieldText, starred, afterInteger};
+ghost use Rattle.field_written.specs.Written.{fewestColumns, fieldText, starred, afterInteger};
 
 // The numeral, right justified; it takes `need` columns, which are there.
-fn put_integer(dst: &mut [u8], at: usize, width: usize, need: usize, negative: bool, m: u64)
-    requires { ⌜ (at + width ≤ length (now dst)) × (need ≤ width) × (need ≡ fewestColumns I (minusIf negative) m) × (m ≤ largest) ⌝ }
-    ensures { λ r. ⌜ now (dst .exit) ≡ splice (now (dst .entry)) at (fieldText I width (minusIf negative) m) ⌝ }
+fn put_integer(dst: &mut [u8], at: usize, width: usize, need: usize, sign: Sign, m: u64)
+    requires { ⌜ (at + width ≤ length (now dst)) × (need ≤ width) × (need ≡ fewestColumns I sign m) × (m ≤ largest) ⌝ }
+    ensures { λ r. ⌜ now (dst .exit) ≡ splice (now (dst .entry)) at (fieldText I width sign m) ⌝ }
 {
-    let s = sign_width(negative);
+    let s = sign_width(sign);
     let k = need - s;
     let blanks = width - need;
     buffer::fill(dst, at, blanks, b' ');
-    put_sign(dst, at + blanks, negative);
-    put_digits(dst, at + blanks + s, k, m);
+    put_sign(dst, at + blanks, sign);
+    put_digits(dst, at + blanks + s, k, number::powers::power_of_ten(k), m);
 }
 
 // n under Iw from offset at on; whether the field is starred.
@@ -30,13 +32,13 @@ pub fn write_integer(dst: &mut [u8], at: usize, width: usize, n: i64) -> bool
     requires { ⌜ (at + width ≤ length (now dst)) × (natAbs n ≤ largest) ⌝ }
     ensures { λ r. ⌜ (r ≡ starred plain I width n) × (now (dst .exit) ≡ afterInteger plain (now (dst .entry)) at width n) ⌝ }
 {
-    let negative = number::sign::is_negative(n);
+    let sign = minus_if(number::sign::is_negative(n));
     let m = number::sign::magnitude(n);
-    let need = integer_columns(negative, m);
+    let need = integer_columns(sign, m);
     if width < need {
         buffer::fill(dst, at, width, b'*');
         return true;
     }
-    put_integer(dst, at, width, need, negative, m);
+    put_integer(dst, at, width, need, sign, m);
     false
 }

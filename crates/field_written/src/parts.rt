@@ -1,29 +1,42 @@
 // The parts of a numeral, laid into a buffer.
-use number::powers::power_of_ten;
+use crate::Sign;
 ghost use mathlib.Core.Path.{_≡_};
-ghost use Prim.Native.Nat.{_+_, _<_, _≤_, _^_};
+ghost use Prim.Native.Nat.{_+_, _≤_, _<_, _^_};
 ghost use lib.ListN.{length};
 ghost use Rattle.buffer.specs.Splice.{splice};
 ghost use Rattle.number.specs.Digits.{digitsOf};
 ghost use Rattle.field_written.specs.Numeral.{signBytes};
 ghost use Rattle.field_written.specs.Written.{minusIf};
 
-// The sign, where there is one.
-pub fn put_sign(dst: &mut [u8], at: usize, negative: bool)
-    requires { ⌜ at + length (signBytes (minusIf negative)) ≤ length (now dst) ⌝ }
-    ensures { λ r. ⌜ now (dst .exit) ≡ splice (now (dst .entry)) at (signBytes (minusIf negative)) ⌝ }
+// A minus below zero, and no sign else.
+pub fn minus_if(negative: bool) -> Sign
+    ensures { λ r. ⌜ r ≡ minusIf negative ⌝ }
 {
-    if negative {
-        dst[at] = b'-';
+    if negative { Sign::Minus } else { Sign::None }
+}
+
+// The sign, where there is one.
+pub fn put_sign(dst: &mut [u8], at: usize, sign: Sign)
+    requires { ⌜ at + length (signBytes sign) ≤ length (now dst) ⌝ }
+    ensures { λ r. ⌜ now (dst .exit) ≡ splice (now (dst .entry)) at (signBytes sign) ⌝ }
+{
+    match sign {
+        Sign::None => {}
+        Sign::Plus => {
+            dst[at] = b'+';
+        }
+        Sign::Minus => {
+            dst[at] = b'-';
+        }
     }
 }
 
-// The k digits of m, from the most significant one on.
-pub fn put_digits(dst: &mut [u8], at: usize, k: usize, m: u64)
-    requires { ⌜ (at + k ≤ length (now dst)) × (k < 19) × (m < 10 ^ k) ⌝ }
+// The k digits of m, from the most significant one on; `power` is 10^k.
+pub fn put_digits(dst: &mut [u8], at: usize, k: usize, power: u64, m: u64)
+    requires { ⌜ (at + k ≤ length (now dst)) × (power ≡ 10 ^ k) × (m < power) ⌝ }
     ensures { λ r. ⌜ now (dst .exit) ≡ splice (now (dst .entry)) at (digitsOf k m) ⌝ }
 {
-    let mut p = power_of_ten(k) / 10;
+    let mut p = power / 10;
     let mut rest = m;
     let mut i: usize = 0;
     while i < k {

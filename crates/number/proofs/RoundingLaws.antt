@@ -4,7 +4,7 @@ use mathlib.Core.Path.{_≡_, refl, sym, ap, subst, _∙_}
 use mathlib.Core.Bool.{Bool, true, false, cond}
 use Prim.Native.Nat.{ℕ, zero, suc, _+_, _-_, _*_, _/_, _^_, _<_, _≤_}
 use native.Mathlib.Decide.{decLt}
-use native.Mathlib.Nat.{mul-assoc, mul-left-comm, add-mul, mul-div-mul-left, mul-div-mul-right, le-div-iff-mul-le, div-lt-iff-lt-mul, div-mul-le-self, lt-div-mul-add, mul-le-mul-right, le-antisymm, zero-mul}
+use native.Mathlib.Nat.{mul-one, mul-assoc, mul-left-comm, add-mul, mul-div-mul-left, mul-div-mul-right, le-div-iff-mul-le, div-lt-iff-lt-mul, div-mul-le-self, lt-div-mul-add, mul-le-mul-right, le-antisymm, zero-mul}
 use native.Mathlib.Omega.{arith}
 use lib.Arith.{digits-div}
 use lib.Dec.{ltb}
@@ -25,6 +25,12 @@ nearest-up u s d {p} h e =
     let f : 10 ^ d ≡ p * q = ten-split s d h ∙ rw e in
     let g : 2 * (u * (p * q)) ≡ (u * p) * (2 * q) = simp (mul-left-comm 2, mul-assoc) in
     rw (f, g) (digits-div (u * p) (omega (arith, ten-pos s)))
+
+-- as many places: nothing changes
+pub nearest-same : (u s d : ℕ) → s ≡ d → roundedMagnitude u s d ≡ u
+nearest-same u s d e =
+    let z : d - s ≡ 0 = omega arith in
+    nearest-up u s d {p = 1} (omega arith) (rw z) ∙ mul-one u
 
 -- places dropped: half a unit of the result is added, and the digits are cut off
 pub nearest-down : (u s d : ℕ) {p : ℕ} → d < s → p ≡ 10 ^ (s - d) → roundedMagnitude u s d ≡ (u + p / 2) / p
@@ -168,7 +174,7 @@ nearest-neg {u} {s} {d} {r} n =
       half-away = λ k e. rw (natAbs-neg r, ← natAbs-neg k) (n .half-away (negℤ k) (sym (back k) ∙ e ∙ distance-neg u s d r));
     }
 
--- ---- the roundingAnswer units are roundedMagnitude, and no other number is
+-- ---- the rounded units are nearest, and no other number is
 
 module _ (m s d : ℕ) where
   right-pos : Nearest (pos m) s d (pos (roundedMagnitude m s d))

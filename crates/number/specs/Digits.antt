@@ -27,7 +27,7 @@ unfoldable pub digitsOf : ℕ → ℕ → List ℕ
 digitsOf zero m = []
 digitsOf (suc k) m = (digitZero + m / 10 ^ k % 10) ∷ digitsOf k m
 
--- one digit below 10, and else one more than m / 10 has; n bounds how often is divided
+-- one digit below 10, and else one more than m / 10 has; n bounds the number of divisions
 unfoldable pub countDigits : ℕ → ℕ → ℕ
 countDigits zero m = 1
 countDigits (suc n) m =

@@ -17,7 +17,7 @@ RoundedIs = (u : ℤ) (s d : ℕ) (r : ℤ) → Nearest u s d r ↔ (r ≡ round
 abbrev pub RoundedExact : Type 0
 RoundedExact = (u : ℤ) (s d : ℕ) → s ≤ d → roundedUnits u s d ≡ u *ℤ pos (10 ^ (d - s))
 
--- m is below 10^digitCount, and below no smaller power but 10^0
+-- m is below 10^digitCount, and below no smaller power, 10^0 aside
 abbrev pub DigitCountIs : Type 0
 DigitCountIs = (m : ℕ) → (m < 10 ^ digitCount m) × (0 < digitCount m) × ((k : ℕ) → 0 < k → m < 10 ^ k → digitCount m ≤ k)
 

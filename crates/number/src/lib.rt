@@ -10,7 +10,7 @@ pub const LARGEST: u64 = 999_999_999_999_999_999;
 // The most places of a decimal.
 pub const MOST_PLACES: usize = 9;
 
-// A decimal's units after rounding.
+// The magnitude of a decimal's units after rounding; too large beyond LARGEST.
 pub enum Rounded {
     Units(u64),
     TooLarge,

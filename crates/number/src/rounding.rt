@@ -12,7 +12,10 @@ pub fn round(units: u64, places: usize, wanted: usize) -> Rounded
     requires { ⌜ (units ≤ largest) × (places ≤ mostPlaces) × (wanted ≤ mostPlaces) ⌝ }
     ensures { λ r. ⌜ r ≡ roundingAnswer units places wanted ⌝ }
 {
-    if places <= wanted {
+    if places == wanted {
+        return Rounded::Units(units);
+    }
+    if places < wanted {
         let p = power_of_ten(wanted - places);
         if units <= LARGEST / p {
             return Rounded::Units(units * p);

@@ -13,9 +13,8 @@ use lib.IntN.{ℤ, pos, negℤ}
 use Rattle.buffer.specs.Characters.{blank}
 use Rattle.field_written.specs.Numeral.{I, F, plain}
 use Rattle.field_written.specs.Written.{starred, afterInteger, putDecimal, afterDecimal, putStarred}
-use Rattle.field_read.specs.Read.{readField}
-use Rattle.field_read.specs.declared.FieldRead.{FieldRead}
-use Rattle.field_read.specs.declared.FieldRead.the-variants.{Number, Refused}
+use Rattle.field_read.specs.Read.{readField, readRefusal, readUnits, readPlaces}
+use Rattle.field_read.specs.declared.FieldRead.the-variants.{Refused}
 
 -- the bytes of a text
 unfoldable pub bytes : String → List ℕ
@@ -32,19 +31,21 @@ pub data Example : Type 0 where
 
 pub data Answer : Type 0 where
   writes : List ℕ → (stars : ℕ) → Answer
-  reads : FieldRead → Answer
+  reads : (refusal : ℕ) (u : ℤ) (s : ℕ) → Answer
 
 -- by the definitions: the field in a buffer of w blanks; the field read
 unfoldable pub computed : Example → Answer
 computed (integer w n t k) = writes (afterInteger plain (replicate w blank) 0 w n) (cond (starred plain I w n) 1 0)
 computed (decimal w d u s t k) = writes (afterDecimal plain (replicate w blank) 0 w d u s) (putStarred (putDecimal plain w d u s))
-computed (read w d t u s) = reads (cond (eqb (length (bytes t)) w) (readField (F d) (bytes t)) Refused)
+computed (read w d t u s) =
+    let r = cond (eqb (length (bytes t)) w) (readField (F d) (bytes t)) Refused in
+    reads (readRefusal r) (readUnits r) (readPlaces r)
 
 -- by the paper
 unfoldable pub stated : Example → Answer
 stated (integer w n t k) = writes (bytes t) k
 stated (decimal w d u s t k) = writes (bytes t) k
-stated (read w d t u s) = reads (Number u s)
+stated (read w d t u s) = reads 0 u s
 
 unfoldable pub examples : List Example
 examples =

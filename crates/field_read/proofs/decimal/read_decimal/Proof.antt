@@ -14,11 +14,11 @@ read-front-requires c κs = search needs
 enum-told : tie.Need-enum-told
 enum-told c = search needs
 
-enum-known-minus : tie.Need-enum-known-minus
-enum-known-minus c = search needs
+enum-known-sign : tie.Need-enum-known-sign
+enum-known-sign c = search needs
 
 read-units-requires : tie.Need-read-units-requires
-read-units-requires c κs = subst (FrontIs _) (c .before .minus .given .1) (c .before .before .before .read-front .ensures) .past
+read-units-requires c κs = subst (FrontIs _) (c .before .sign .given .1) (c .before .before .before .read-front .ensures) .past
 
 returns : tie.Need-returns
 returns c = read-nothing (F _) _ (subst (FrontIs _) (c .enum-told .given .1) (c .before .before .read-front .ensures))
@@ -26,9 +26,9 @@ returns c = read-nothing (F _) _ (subst (FrontIs _) (c .enum-told .given .1) (c 
 returns-2 : tie.Need-returns-2
 returns-2 c =
     let b = c .before .before in
-    c .read-units .ensures ∙ sym (signed-reads (subst (FrontIs _) (b .minus .given .1) (b .before .before .read-front .ensures)) (F _))
+    c .read-units .ensures ∙ sym (signed-reads (subst (FrontIs _) (b .sign .given .1) (b .before .before .read-front .ensures)) (F _))
 
 pub read-decimal-spec : {M : Type 1} → statement M
 read-decimal-spec =
     tie.close
-    (tie.spec read-front-requires enum-told enum-known-minus read-units-requires returns returns-2)
+    (tie.spec read-front-requires enum-told enum-known-sign read-units-requires returns returns-2)

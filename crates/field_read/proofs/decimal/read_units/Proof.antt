@@ -38,13 +38,13 @@ number-of-requires : tie.Need-number-of-requires
 number-of-requires c κs = found (c .before) .low
 
 returns : tie.Need-returns
-returns c = c .number-of .ensures ∙ units-ended (c .before .before .before .before .before .before .before .args .minus) (c .before .before .before .before .before .before .before .args .d) (found (c .before .before)) (c .before .if1 .taken)
+returns c = c .number-of .ensures ∙ units-ended (c .before .before .before .before .before .before .before .args .sign) (c .before .before .before .before .before .before .before .args .d) (found (c .before .before)) (c .before .if1 .taken)
 
 shared-slice-read-if2 : tie.Need-shared-slice-read-if2
 shared-slice-read-if2 c = search needs
 
 returns-2 : tie.Need-returns-2
-returns-2 c = units-other (c .before .before .before .before .before .before .before .before .args .minus) (c .before .before .before .before .before .before .before .before .args .d) (found (c .before .before .before)) (c .before .before .if1 .left) (c .if2 .taken)
+returns-2 c = units-other (c .before .before .before .before .before .before .before .before .args .sign) (c .before .before .before .before .before .before .before .before .args .d) (found (c .before .before .before)) (c .before .before .if1 .left) (c .if2 .taken)
 
 add-read-run : tie.Need-add-read-run
 add-read-run c = search needs
@@ -60,16 +60,16 @@ returns-3 c =
     let t = c .before in
     let i = t .before .before .before .before in
     let k = i .before .before .before in
-    fraction-stopped (c .before .before .before .before .before .before .before .before .before .before .before .before .before .args .minus) _ (found k .all) (whole k) (fraction t) (c .if3 .taken)
-    ∙ units-pointed (c .before .before .before .before .before .before .before .before .before .before .before .before .before .args .minus) (c .before .before .before .before .before .before .before .before .before .before .before .before .before .args .d) (found k) (i .before .before .if1 .left) (i .if2 .left)
+    fraction-stopped (c .before .before .before .before .before .before .before .before .before .before .before .before .before .args .sign) _ (found k .all) (whole k) (fraction t) (c .if3 .taken)
+    ∙ units-pointed (c .before .before .before .before .before .before .before .before .before .before .before .before .before .args .sign) (c .before .before .before .before .before .before .before .before .before .before .before .before .before .args .d) (found k) (i .before .before .if1 .left) (i .if2 .left)
 
 returns-4 : tie.Need-returns-4
 returns-4 c =
     let t = c .before .before in
     let i = t .before .before .before .before in
     let k = i .before .before .before in
-    fraction-long (c .before .before .before .before .before .before .before .before .before .before .before .before .before .before .args .minus) _ (found k .all) (whole k) (fraction t) (c .before .if3 .left) (c .if4 .taken)
-    ∙ units-pointed (c .before .before .before .before .before .before .before .before .before .before .before .before .before .before .args .minus) (c .before .before .before .before .before .before .before .before .before .before .before .before .before .before .args .d) (found k) (i .before .before .if1 .left) (i .if2 .left)
+    fraction-long (c .before .before .before .before .before .before .before .before .before .before .before .before .before .before .args .sign) _ (found k .all) (whole k) (fraction t) (c .before .if3 .left) (c .if4 .taken)
+    ∙ units-pointed (c .before .before .before .before .before .before .before .before .before .before .before .before .before .before .args .sign) (c .before .before .before .before .before .before .before .before .before .before .before .before .before .before .args .d) (found k) (i .before .before .if1 .left) (i .if2 .left)
 
 add-number-of : tie.Need-add-number-of
 add-number-of c =
@@ -92,18 +92,18 @@ returns-5 c =
     let i = t .before .before .before .before in
     let k = i .before .before .before in
     c .number-of2 .ensures
-    ∙ fraction-ended (c .before .before .before .before .before .before .before .before .before .before .before .before .before .before .before .args .minus) _ (found k .all) (whole k) (found k .many) (fraction t) (c .before .before .if3 .left) (c .before .if4 .left)
-    ∙ units-pointed (c .before .before .before .before .before .before .before .before .before .before .before .before .before .before .before .args .minus) (c .before .before .before .before .before .before .before .before .before .before .before .before .before .before .before .args .d) (found k) (i .before .before .if1 .left) (i .if2 .left)
+    ∙ fraction-ended (c .before .before .before .before .before .before .before .before .before .before .before .before .before .before .before .args .sign) _ (found k .all) (whole k) (found k .many) (fraction t) (c .before .before .if3 .left) (c .before .if4 .left)
+    ∙ units-pointed (c .before .before .before .before .before .before .before .before .before .before .before .before .before .before .before .args .sign) (c .before .before .before .before .before .before .before .before .before .before .before .before .before .before .before .args .d) (found k) (i .before .before .if1 .left) (i .if2 .left)
 
 returns-6 : tie.Need-returns-6
 returns-6 c =
     let i = c .before .before .before in
     let k = i .before .before .before in
-    fraction-over (c .before .before .before .before .before .before .before .before .before .before .before .args .minus) _ (found k .all) (whole k) (fraction-large c)
-    ∙ units-pointed (c .before .before .before .before .before .before .before .before .before .before .before .args .minus) (c .before .before .before .before .before .before .before .before .before .before .before .args .d) (found k) (i .before .before .if1 .left) (i .if2 .left)
+    fraction-over (c .before .before .before .before .before .before .before .before .before .before .before .args .sign) _ (found k .all) (whole k) (fraction-large c)
+    ∙ units-pointed (c .before .before .before .before .before .before .before .before .before .before .before .args .sign) (c .before .before .before .before .before .before .before .before .before .before .before .args .d) (found k) (i .before .before .if1 .left) (i .if2 .left)
 
 returns-7 : tie.Need-returns-7
-returns-7 c = units-over (c .before .before .before .before .args .minus) (c .before .before .before .before .args .d) (whole-large c)
+returns-7 c = units-over (c .before .before .before .before .args .sign) (c .before .before .before .before .args .d) (whole-large c)
 
 pub read-units-spec : {M : Type 1} → statement M
 read-units-spec =

@@ -22,7 +22,7 @@ enum-known-value : tie.Need-enum-known-value
 enum-known-value c = search needs
 
 returns : tie.Need-returns
-returns c = whole-stopped (c .before .before .before .before .before .before .args .minus) (found (c .before)) (c .if1 .taken)
+returns c = whole-stopped (c .before .before .before .before .before .before .args .sign) (found (c .before)) (c .if1 .taken)
 
 number-of-requires : tie.Need-number-of-requires
 number-of-requires c κs = found (c .before) .low
@@ -33,10 +33,10 @@ enum-told c = search needs
 returns-2 : tie.Need-returns-2
 returns-2 c =
     let i = c .before in
-    c .number-of .ensures ∙ whole-ended (c .before .before .before .before .before .before .before .args .minus) (found (i .before)) (i .if1 .left)
+    c .number-of .ensures ∙ whole-ended (c .before .before .before .before .before .before .before .args .sign) (found (i .before)) (i .if1 .left)
 
 returns-3 : tie.Need-returns-3
-returns-3 c = whole-over (c .before .before .before .before .args .minus) (over c)
+returns-3 c = whole-over (c .before .before .before .before .args .sign) (over c)
 
 pub read-whole-spec : {M : Type 1} → statement M
 read-whole-spec =

@@ -14,16 +14,16 @@ returns c = front-nothing (c .before .skip-blanks .ensures) (c .if1 .taken)
 shared-slice-read-b : tie.Need-shared-slice-read-b
 shared-slice-read-b c = search needs
 
-add-t8 : tie.Need-add-t8
-add-t8 c = search needs
+add-t9 : tie.Need-add-t9
+add-t9 c = search needs
 
 returns-2 : tie.Need-returns-2
 returns-2 c =
     let i = c .before .before in
     front-plus (i .before .skip-blanks .ensures) (i .if1 .left) (c .if2 .taken)
 
-add-t9 : tie.Need-add-t9
-add-t9 c = search needs
+add-t11 : tie.Need-add-t11
+add-t11 c = search needs
 
 returns-3 : tie.Need-returns-3
 returns-3 c =
@@ -42,8 +42,8 @@ read-front-spec =
     skip-blanks-requires
     returns
     shared-slice-read-b
-    add-t8
-    returns-2
     add-t9
+    returns-2
+    add-t11
     returns-3
     returns-4)

@@ -2,7 +2,6 @@
 -- Assumes nothing.
 use native.Mathlib.Omega.{arith}
 use lib.ListN.{length-replicate}
-use Rattle.field_written.specs.Written.{minusIf}
 use Rattle.buffer.proofs.Splicing.{splice-then}
 use Rattle.field_written.proofs.Cases.{Showing, decimal-rest, decimal-shows}
 use borrow.Author.Needs.{needs}
@@ -10,7 +9,7 @@ use Rattle.field_written.proofs.decimal.put_decimal.Statement.{statemen
 use Rattle.field_written.proofs.decimal.put_decimal.Tie as tie
 
 -- the code's numbers show the field
-counted : (c : tie.After-shown-digits) → Showing (c .before .before .before .before .args .width) (minusIf (c .before .before .before .before .args .negative)) (c .before .before .before .before .args .d) (c .before .before .before .before .args .m) (c .before .sign-width .result) (c .before .before .power-of-ten .result) (c .shown-digits .result)
+counted : (c : tie.After-shown-digits) → Showing (c .before .before .before .before .args .width) (c .before .before .before .before .args .sign) (c .before .before .before .before .args .d) (c .before .before .before .before .args .m) (c .before .sign-width .result) (c .before .before .power-of-ten .result) (c .shown-digits .result)
 counted c =
     let a = c .before .before .before .before in
     decimal-shows
@@ -65,7 +64,8 @@ put-numeral-requires : tie.Need-put-numeral-requires
 put-numeral-requires c κs =
     let k = c .before .before .before .before .before in
     let w = counted k in
-    (omega (arith, w .fits), w .few (k .before .before .before .before .pre .4), w .whole, k .before .before .before .before .pre .3, w .fraction)
+    let p = k .before .before in
+    (omega (arith, w .fits), w .few (p .before .before .pre .4), w .whole, p .power-of-ten .ensures .0, w .fraction)
 
 same-length : tie.Need-same-length
 same-length c = search needs

@@ -1,11 +1,12 @@
 -- `field_written::decimal::write_decimal` meets its contract.
 -- Assumes nothing.
-use mathlib.Core.Path.{_≡_, sym, _∙_}
+use mathlib.Core.Path.{_≡_, sym, ap, _∙_}
 use native.Mathlib.Omega.{arith}
 use lib.IntN.{natAbs}
 use mir.Facts.{toZ-ofZ}
 use Rattle.number.specs.Magnitude.{negative}
 use Rattle.number.proofs.RoundingLaws.{units-of}
+use Rattle.field_written.specs.Written.{minusIf}
 use Rattle.field_written.proofs.Answer.{decimal-starred, decimal-shown, decimal-large}
 use borrow.Author.Needs.{needs}
 use Rattle.field_written.proofs.decimal.write_decimal.Statement.{statement}
@@ -33,9 +34,12 @@ enum-known-r c = search needs
 stays-negative-requires : tie.Need-stays-negative-requires
 stays-negative-requires c κs = search needs
 
+minus-if-requires : tie.Need-minus-if-requires
+minus-if-requires c κs = search needs
+
 decimal-columns-requires : tie.Need-decimal-columns-requires
 decimal-columns-requires c κs =
-    let r = c .before .before in
+    let r = c .before .before .before in
     let o = r .before .before in
     (omega arith, omega (arith, units-of _ _ _ (sym (o .round .ensures) ∙ r .r .given .1) .1, magnitude-is (o .before)))
 
@@ -51,16 +55,16 @@ returns c =
     let i = f .before .before in
     let n = i .before in
     let b = n .before in
-    let r = b .before .before in
+    let r = b .before .before .before in
     let o = r .before .before in
     let m = o .before in
-    let w = decimal-starred (m .before .before .before .args .width) _ _ _ (magnitude-is m) (sym (o .round .ensures) ∙ r .r .given .1) (negative-is (m .before)) (b .stays-negative .ensures) (n .decimal-columns .ensures .0) (i .if1 .taken) in
+    let w = decimal-starred (m .before .before .before .args .width) _ _ _ (magnitude-is m) (sym (o .round .ensures) ∙ r .r .given .1) (negative-is (m .before)) (b .minus-if .ensures ∙ ap minusIf (b .before .stays-negative .ensures)) (n .decimal-columns .ensures .0) (i .if1 .taken) in
     (w .0, f .fill .ensures ∙ w .1 _ _)
 
 put-decimal-requires : tie.Need-put-decimal-requires
 put-decimal-requires c κs =
     let n = c .before .before in
-    let r = n .before .before .before in
+    let r = n .before .before .before .before in
     let o = r .before .before in
     (omega arith, omega arith, n .decimal-columns .ensures .0, omega arith, omega (arith, units-of _ _ _ (sym (o .round .ensures) ∙ r .r .given .1) .1))
 
@@ -76,10 +80,10 @@ returns-2 c =
     let i = f .before .before in
     let n = i .before in
     let b = n .before in
-    let r = b .before .before in
+    let r = b .before .before .before in
     let o = r .before .before in
     let m = o .before in
-    let w = decimal-shown (m .before .before .before .args .width) _ _ _ (magnitude-is m) (sym (o .round .ensures) ∙ r .r .given .1) (negative-is (m .before)) (b .stays-negative .ensures) (n .decimal-columns .ensures .0) (i .if1 .left) in
+    let w = decimal-shown (m .before .before .before .args .width) _ _ _ (magnitude-is m) (sym (o .round .ensures) ∙ r .r .given .1) (negative-is (m .before)) (b .minus-if .ensures ∙ ap minusIf (b .before .stays-negative .ensures)) (n .decimal-columns .ensures .0) (i .if1 .left) in
     (w .0, f .put-decimal .ensures ∙ w .1 _ _)
 
 returns-3 : tie.Need-returns-3
@@ -98,6 +102,7 @@ write-decimal-spec =
     round-requires
     enum-known-r
     stays-negative-requires
+    minus-if-requires
     decimal-columns-requires
     fill-requires
     same-length

@@ -7,16 +7,13 @@ use Rattle.field_written.proofs.parts.put_digits.Statement.{statement}
 use Rattle.field_written.proofs.parts.put_digits.Tie as tie
 
 abbrev Inv-loop : tie.InvT-loop
-Inv-loop dst₀ at k m p₀ rest₀ i₀ dst p rest i = Made dst₀ at k m dst p rest i
+Inv-loop dst₀ at k power m p₀ rest₀ i₀ dst p rest i = Made dst₀ at k m dst p rest i
 
 abbrev μ-loop : tie.MeasureT-loop
-μ-loop dst₀ at k m p₀ rest₀ i₀ dst p rest i = k - i
-
-power-of-ten-requires : tie.Need-power-of-ten-requires Inv-loop μ-loop
-power-of-ten-requires c κs = omega arith
+μ-loop dst₀ at k power m p₀ rest₀ i₀ dst p rest i = k - i
 
 loop-holds : tie.Need-loop-holds Inv-loop μ-loop
-loop-holds c = made-none (c .before .before .pre .0) (c .before .before .pre .2) (c .power-of-ten .ensures .0)
+loop-holds c = made-none (c .pre .0) (c .pre .1) (c .pre .2)
 
 div-dst : tie.Need-div-dst Inv-loop μ-loop
 div-dst c = made-pos (c .before .loop .inv) (c .loop-test .taken)
@@ -57,7 +54,6 @@ put-digits-spec =
     (tie.spec
     Inv-loop
     μ-loop
-    power-of-ten-requires
     loop-holds
     div-dst
     cast-dst
