@@ -6,7 +6,7 @@ use Prim.Native.Nat.{ℕ, _+_, _<_, _≤_}
 use native.Mathlib.Nat.{add-assoc, add-zero}
 use native.Mathlib.Numerals.{add-one}
 use native.Mathlib.Omega.{arith}
-use lib.ListN.{length, take, drop, set, getD, length-append, length-drop, length-set, take-append-drop}
+use lib.ListN.{length, take, drop, set, getD, length-append, length-set, take-append-drop}
 use lib.Seq.{paste, paste-zero, paste-suc, take-length, length-take-le, drop-append-add, take-at, drop-drop, set-split, append-snoc}
 use Rattle.buffer.specs.Splice.{splice}
 
@@ -38,10 +38,6 @@ splice-then d d₁ d₂ at p xs ys e₁ e₂ q h = e₂ ∙ rw (e₁, q) (splice
 pub splice-nothing : (d : List ℕ) (at : ℕ) → splice d at [] ≡ d
 unfolding splice
 splice-nothing d at = simp (add-zero, append-nil) (take-append-drop at d)
-
-pub length-splice : (d : List ℕ) (at : ℕ) (xs : List ℕ) → at + length xs ≤ length d → length (splice d at xs) ≡ length d
-unfolding splice
-length-splice d at xs h = simp (length-append, length-take-le at d (omega arith), length-drop) (omega arith)
 
 pub splice-one : (d : List ℕ) (at v : ℕ) → at < length d → set d at v ≡ splice d at (v ∷ [])
 unfolding splice

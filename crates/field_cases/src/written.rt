@@ -1,4 +1,4 @@
-// Fields written: the field between bars, then its answer.
+// Fields written: the field with two bytes beside it on either side, between bars, then its answer.
 use field_written::Put;
 use libc::STDOUT_FILENO;
 ghost use Prim.Native.Nat.{_≤_};
@@ -18,9 +18,9 @@ fn show(line: &[u8], width: usize)
 fn integer(width: usize, n: i64)
     requires { ⌜ (width ≤ 64) × (natAbs n ≤ largest) ⌝ }
 {
-    let mut line = [b'x'; 64];
-    let starred = field_written::integer::write_integer(&mut line, 0, width, n);
-    show(&line, width);
+    let mut line = [b'x'; 68];
+    let starred = field_written::integer::write_integer(&mut line, 2, width, n);
+    show(&line, width + 4);
     if starred {
         io::write_all(STDOUT_FILENO, b" starred");
     }
@@ -45,9 +45,9 @@ fn say(answer: Put) {
 fn decimal(width: usize, d: usize, units: i64, places: usize)
     requires { ⌜ (width ≤ 64) × (d ≤ mostPlaces) × (natAbs units ≤ largest) × (places ≤ mostPlaces) ⌝ }
 {
-    let mut line = [b'x'; 64];
-    let answer = field_written::decimal::write_decimal(&mut line, 0, width, d, units, places);
-    show(&line, width);
+    let mut line = [b'x'; 68];
+    let answer = field_written::decimal::write_decimal(&mut line, 2, width, d, units, places);
+    show(&line, width + 4);
     say(answer);
 }
 

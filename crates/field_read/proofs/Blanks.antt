@@ -33,7 +33,7 @@ unfolding unblanked
 unblanked-digits [] h = refl
 unblanked-digits (x ∷ xs) h = simp (ne-eqb x 32 (λ e. omega arith), unblanked-digits xs (h .2))
 
--- ---- one place on
+-- ---- one offset on
 
 pub at-blank : (s : List ℕ) (i : ℕ) → i < length s → getD s i 0 ≡ 32 → unblanked (drop i s) ≡ unblanked (drop (i + 1) s)
 unfolding unblanked

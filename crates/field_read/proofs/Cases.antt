@@ -12,7 +12,7 @@ use lib.ListN.{length, drop, getD, length-append}
 use lib.IntN.{pos}
 use Rattle.buffer.specs.Characters.{plusSign, minusSign}
 use Rattle.number.specs.Digits.{Digits, value}
-use Rattle.number.proofs.DigitLaws.{value-append, digits-append}
+use Rattle.number.proofs.DigitLaws.{value-none, value-append, digits-append}
 use Rattle.field_written.specs.Numeral.{Numeric, I, F, places, signed}
 use Rattle.field_written.specs.declared.Sign.{Sign}
 use Rattle.field_written.specs.declared.Sign.the-variants.{None, Plus, Minus}
@@ -94,24 +94,20 @@ module _ {s : List ℕ} {from v : ℕ} (sign : Sign) (p : ℕ) (x y pre : List �
   run-over r =
       sym (number-over sign p x y (pre ++ r .digits) (r .more) (e ∙ rw (r .rest, append-assoc)) (rw (sums pre (r .digits) hv) (r .high)))
 
-pub value-none : 0 ≡ value []
-unfolding value
-value-none = refl
-
 -- ---- under I
 
 module _ {s : List ℕ} {from : ℕ} (sign : Sign) where
   pub whole-ended : {sum count next : ℕ} → Ran s from 0 sum count next → length s ≤ next → cond (eqb count 0) Refused (Number (signed sign sum) 0) ≡ readDigits I sign (unblanked (drop from s))
   whole-ended {sum} {count} {next} r h =
       let e : cond (eqb (0 + count) 0) Refused (Number (signed sign sum) 0) ≡ numberRead sign 0 (unblanked (drop from s)) [] =
-      run-ended {s = s} {from = from} sign 0 (unblanked (drop from s)) [] [] (append-nil (unblanked (drop from s))) tt value-none r h (omega arith) in
+      run-ended {s = s} {from = from} sign 0 (unblanked (drop from s)) [] [] (append-nil (unblanked (drop from s))) tt (sym value-none) r h (omega arith) in
       rw zero-add at e
 
   pub whole-stopped : {sum count next : ℕ} → Ran s from 0 sum count next → next < length s → Refused ≡ readDigits I sign (unblanked (drop from s))
-  whole-stopped r h = run-stopped {s = s} {from = from} sign 0 (unblanked (drop from s)) [] [] (append-nil (unblanked (drop from s))) tt value-none r h
+  whole-stopped r h = run-stopped {s = s} {from = from} sign 0 (unblanked (drop from s)) [] [] (append-nil (unblanked (drop from s))) tt (sym value-none) r h
 
   pub whole-over : RunTooLarge s from 0 → Refused ≡ readDigits I sign (unblanked (drop from s))
-  whole-over r = run-over {s = s} {from = from} sign 0 (unblanked (drop from s)) [] [] (append-nil (unblanked (drop from s))) tt value-none r
+  whole-over r = run-over {s = s} {from = from} sign 0 (unblanked (drop from s)) [] [] (append-nil (unblanked (drop from s))) tt (sym value-none) r
 
 -- ---- under F, after the point: the digits `whole` stand before it
 
@@ -144,7 +140,7 @@ module _ {s : List ℕ} {from : ℕ} (sign : Sign) (d : ℕ) where
   units-ended {sum} {count} {next} r h =
       let ds : List ℕ = r .digits in
       let a : cond (eqb (0 + count) 0) Refused (Number (signed sign sum) d) ≡ numberRead sign d ds [] =
-      run-ended {s = s} {from = from} sign d ds [] [] (append-nil ds ∙ sym (run-all r h)) tt value-none r h (omega arith) in
+      run-ended {s = s} {from = from} sign d ds [] [] (append-nil ds ∙ sym (run-all r h)) tt (sym value-none) r h (omega arith) in
       (rw zero-add at a) ∙ rw (run-all r h) (simp (before-all ds (r .all), from-all ds (r .all)))
 
   pub units-other : {sum count next : ℕ} → Ran s from 0 sum count next → next < length s → (getD s next 0 ≡ 46 → ⊥) → Refused ≡ readDigits (F d) sign (unblanked (drop from s))

@@ -1,16 +1,16 @@
 -- Laws of a number read: its digits, the point, and its limits.
 -- Assumes nothing.
 use mathlib.Core.Path.{_≡_, refl, ap}
-use mathlib.Core.Bool.{Bool, true, false, _&&_, cond, and-false}
+use mathlib.Core.Bool.{true, false, _&&_, cond, and-false}
 use mathlib.Core.List.{List, [], _∷_, _++_}
 use Prim.Native.Nat.{ℕ, suc, _<_, _≤_}
 use native.Mathlib.Nat.{mul-le-mul-left, mul-one}
 use native.Mathlib.Omega.{arith}
-use borrow.Author.Tests.{ne-eqb, lt-ltb, le-leb, lt-leb, leb-true}
+use borrow.Author.Tests.{ne-eqb, lt-ltb, le-leb, lt-leb}
 use lib.Dec.{leb, eqb, ltb}
 use lib.ListN.{length}
 use Rattle.number.specs.Limits.{largest}
-use Rattle.number.specs.Digits.{Digits, allDigits, value}
+use Rattle.number.specs.Digits.{isDigit, Digits, allDigits, value}
 use mir.Syntax.{w64}
 use mir.Val.{SFits}
 use Rattle.number.proofs.SignLaws.{with-fits}
@@ -22,21 +22,10 @@ use Rattle.field_written.specs.declared.Sign.the-variants.{None, Plus, Minus}
 use Rattle.field_read.specs.Read.{beforePoint, fromPoint, numberRead}
 use Rattle.field_read.specs.declared.FieldRead.the-variants.{Number, Refused}
 
--- no digit
-abbrev pub Other : ℕ → Type 0
-Other c = 48 ≤ c → 57 < c
-
-other-digit : (c : ℕ) → Other c → (leb 48 c && leb c 57) ≡ false
-other-digit c h = go (leb 48 c) refl
-  where
-    go : (b : Bool) → leb 48 c ≡ b → (b && leb c 57) ≡ false
-    go true e = lt-leb c 57 (h (leb-true 48 c e))
-    go false e = refl
-
-some-other : (ds : List ℕ) (c : ℕ) (more : List ℕ) → Other c → allDigits (ds ++ (c ∷ more)) ≡ false
+some-other : (ds : List ℕ) (c : ℕ) (more : List ℕ) → isDigit c ≡ false → allDigits (ds ++ (c ∷ more)) ≡ false
 unfolding allDigits
-some-other [] c more h = rw (other-digit c h)
-some-other (x ∷ xs) c more h = rw (some-other xs c more h) (and-false (leb 48 x && leb x 57))
+some-other [] c more h = rw h
+some-other (x ∷ xs) c more h = rw (some-other xs c more h) (and-false (isDigit x))
 
 value-more : (ds more : List ℕ) → value ds ≤ value (ds ++ more)
 value-more ds more =
@@ -55,7 +44,7 @@ module _ (s : Sign) (p : ℕ) (x y : List ℕ) where
           let n : length (x ++ y) ≡ suc (length z) = ap length e in
           simp (lt-ltb 0 (length (x ++ y)) (omega arith), all-digits (x ++ y) a, le-leb (length y) 9 l, le-leb (value (x ++ y)) largest v, ne-eqb (length (x ++ y)) 0 (λ q. omega arith))
 
-  pub number-bad : (ds : List ℕ) (c : ℕ) (more : List ℕ) → x ++ y ≡ ds ++ (c ∷ more) → Other c → numberRead s p x y ≡ Refused
+  pub number-bad : (ds : List ℕ) (c : ℕ) (more : List ℕ) → x ++ y ≡ ds ++ (c ∷ more) → isDigit c ≡ false → numberRead s p x y ≡ Refused
   unfolding numberRead
   number-bad ds c more e h = rw (e, some-other ds c more h) (simp and-false)
 

@@ -129,12 +129,12 @@ unblanked-stars (suc w) = rw (unblanked-stars w)
 stars-read : (f : Numeric) (w : ℕ) → readField f (replicate (suc w) asterisk) ≡ Refused
 stars-read I w =
     read-some I (replicate (suc w) asterisk) asterisk (replicate w asterisk) (unblanked-stars (suc w))
-    ∙ number-bad None 0 (asterisk ∷ replicate w asterisk) [] [] asterisk (replicate w asterisk ++ []) refl (λ q. omega arith)
+    ∙ number-bad None 0 (asterisk ∷ replicate w asterisk) [] [] asterisk (replicate w asterisk ++ []) refl refl
 stars-read (F d) w =
     let t : List ℕ = asterisk ∷ replicate w asterisk in
     let y : List ℕ = drop 1 (fromPoint t) in
     read-some (F d) (replicate (suc w) asterisk) asterisk (replicate w asterisk) (unblanked-stars (suc w))
-    ∙ number-bad None (placesRead d t) (beforePoint t) y [] asterisk (beforePoint (replicate w asterisk) ++ y) (ap (λ (x : List ℕ). x ++ y) (before-other asterisk (replicate w asterisk) (λ q. omega arith))) (λ q. omega arith)
+    ∙ number-bad None (placesRead d t) (beforePoint t) y [] asterisk (beforePoint (replicate w asterisk) ++ y) (ap (λ (x : List ℕ). x ++ y) (before-other asterisk (replicate w asterisk) (λ q. omega arith))) refl
 
 pub stars-refused : StarsRefused
 stars-refused f zero h = absurd (not-suc-le-zero h)

@@ -1,6 +1,7 @@
 -- The loop over a run of digits.
 -- Assumes nothing.
 use mathlib.Core.Path.{_≡_, refl, _∙_}
+use mathlib.Core.Bool.{true, false}
 use mathlib.Core.List.{List, [], _∷_, _++_, append-assoc}
 use Prim.Native.Nat.{ℕ, _+_, _-_, _*_, _^_, _<_, _≤_}
 use native.Mathlib.Nat.{pow-suc}
@@ -8,13 +9,13 @@ use native.Mathlib.Numerals.{add-one}
 use native.Mathlib.Omega.{arith}
 use lib.ListN.{length, drop, getD, length-append}
 use Rattle.number.specs.Limits.{largest}
-use Rattle.number.specs.Digits.{Digits, value}
-use Rattle.number.proofs.DigitLaws.{value-append, digits-append}
+use Rattle.number.specs.Digits.{isDigit, Digits, value}
+use Rattle.number.proofs.DigitLaws.{digit-bounds, value-append, digits-append}
 use Rattle.field_read.specs.Read.{unblanked}
 use Rattle.field_read.specs.Steps.{Ran, RunTooLarge}
 use Rattle.field_read.proofs.Blanks.{at-blank, at-other}
 
--- up to i stand `count` digits, which after v make `sum`
+-- up to i stand `count` digits, which after v make the number `sum`
 pub record Running (s : List ℕ) (from v sum count i : ℕ) : Type 0 where
   pub digits : List ℕ
   pub all : Digits digits
@@ -44,7 +45,7 @@ module _ {s : List ℕ} {from v sum count i : ℕ} (w : Running s from v sum cou
         fewer = omega (arith, w .fewer);
       }
 
-  pub running-stop : (i < length s → getD s i 0 ≡ 32 → ⊥) → (i < length s → 48 ≤ getD s i 0 → 57 < getD s i 0) → Ran s from v sum count i
+  pub running-stop : (i < length s → getD s i 0 ≡ 32 → ⊥) → (i < length s → isDigit (getD s i 0) ≡ false) → Ran s from v sum count i
   running-stop a b =
       record {
         digits = w .digits;
@@ -59,14 +60,14 @@ module _ {s : List ℕ} {from v sum count i : ℕ} (w : Running s from v sum cou
         no-digit = b;
       }
 
-  module _ (h : i < length s) (n : getD s i 0 ≡ 32 → ⊥) (l : 48 ≤ getD s i 0) (u : getD s i 0 ≤ 57) where
+  module _ (h : i < length s) (n : getD s i 0 ≡ 32 → ⊥) (e : isDigit (getD s i 0) ≡ true) where
     -- the digits with the one at i
     one : List ℕ
     one = w .digits ++ (getD s i 0 ∷ [])
 
     one-digits : Digits one
     unfolding one
-    one-digits = digits-append (w .digits) (getD s i 0 ∷ []) (w .all) (l, u, tt)
+    one-digits = digits-append (w .digits) (getD s i 0 ∷ []) (w .all) (digit-bounds (getD s i 0) e .0, digit-bounds (getD s i 0) e .1, tt)
 
     one-rest : unblanked (drop from s) ≡ one ++ unblanked (drop (i + 1) s)
     unfolding one

@@ -2,12 +2,13 @@
 -- promise does.
 -- Assumes nothing.
 use mathlib.Core.Path.{_≡_}
+use mathlib.Core.Bool.{false}
 use mathlib.Core.List.{List, [], _++_}
 use Prim.Native.Nat.{ℕ, _+_, _*_, _^_, _<_, _≤_}
 use lib.ListN.{length, drop, getD}
-use Rattle.buffer.specs.Characters.{blank, digitZero, digitNine}
+use Rattle.buffer.specs.Characters.{blank}
 use Rattle.number.specs.Limits.{largest}
-use Rattle.number.specs.Digits.{Digits, value}
+use Rattle.number.specs.Digits.{isDigit, Digits, value}
 use Rattle.field_written.specs.declared.Sign.{Sign}
 use Rattle.field_read.specs.Read.{unblanked, signOf, afterSign}
 use Rattle.field_read.specs.declared.Front.{Front}
@@ -44,7 +45,7 @@ pub record Ran (s : List ℕ) (from v m count next : ℕ) : Type 0 where
   pub past : next ≤ length s
   pub fewer : count ≤ next
   pub no-blank : next < length s → getD s next 0 ≡ blank → ⊥
-  pub no-digit : next < length s → digitZero ≤ getD s next 0 → digitNine < getD s next 0
+  pub no-digit : next < length s → isDigit (getD s next 0) ≡ false
 
 -- from `from` on stand digits which after the number v make too large a number
 pub record RunTooLarge (s : List ℕ) (from v : ℕ) : Type 0 where

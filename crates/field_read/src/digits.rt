@@ -27,26 +27,20 @@ pub fn read_run(part: &[u8], from: usize, v: u64) -> Run
         if b == b' ' {
             i += 1;
         } else {
-            if b < b'0' {
+            if number::digits::is_digit(b) {
+                value = value * 10 + wide(b - b'0');
+                if LARGEST < value {
+                    return Run::TooLarge;
+                }
+                count += 1;
+                i += 1;
+            } else {
                 return Run::Digits {
                     value,
                     count,
                     next: i,
                 };
             }
-            if b'9' < b {
-                return Run::Digits {
-                    value,
-                    count,
-                    next: i,
-                };
-            }
-            value = value * 10 + wide(b - b'0');
-            if LARGEST < value {
-                return Run::TooLarge;
-            }
-            count += 1;
-            i += 1;
         }
     }
     Run::Digits {

@@ -58,14 +58,14 @@ module _ (w d : ℕ) (u : ℤ) (s : ℕ) {m : ℕ} (hm : m ≡ natAbs u) where
     decimal-starred h =
         let r = rounds q f in
         let k = number-starred (F d) w (withSign below v) e (sym (natAbs-with below v)) hn h in
-        (rw (r .1, r .0, ← k .0), λ bytes at. rw (r .1, r .0, ← k .1))
+        (simp (r .1, r .0, sym (k .0)), λ bytes at. rw (r .1, r .0, ← k .1))
 
     pub decimal-shown : need ≤ w → (put.Shown ≡ putDecimal plain w d u s) × ((bytes : List ℕ) (at : ℕ) → splice bytes at (fieldText (F d) w sign v) ≡ afterDecimal plain bytes at w d u s)
     unfolding putDecimal afterDecimal
     decimal-shown h =
         let r = rounds q f in
         let k = number-shown (F d) w (withSign below v) e (sym (natAbs-with below v)) hn h in
-        (rw (r .1, r .0, ← k .0), λ bytes at. rw (r .1, r .0, ← k .1))
+        (simp (r .1, r .0, sym (k .0)), λ bytes at. rw (r .1, r .0, ← k .1))
 
   pub decimal-large : roundingAnswer m s d ≡ TooLarge → (put.TooLarge ≡ putDecimal plain w d u s) × ((bytes : List ℕ) (at : ℕ) → bytes ≡ afterDecimal plain bytes at w d u s)
   unfolding putDecimal afterDecimal roundedUnits tooLarge

@@ -19,7 +19,7 @@ use Rattle.number.specs.Limits.{largest}
 use Rattle.number.specs.Digits.{Digits, value, digitsOf}
 use Rattle.number.specs.Rounding.{Nearest, roundedUnits, tooLarge}
 use Rattle.number.proofs.RoundingLaws.{rounded-is}
-use Rattle.number.proofs.DigitLaws.{length-digits, digits-are, value-digits, value-below, value-append, no-zero, digits-cut, digits-unique, digits-exact}
+use Rattle.number.proofs.DigitLaws.{value-none, length-digits, digits-are, value-digits, value-below, value-append, no-zero, digits-cut, digits-unique, digits-exact}
 use Rattle.field_written.specs.Numeral.{Numeric, I, F, places, point, signBytes, signed, layout, Setting, plain, Permitted, Numeral, characters, standsFor}
 use Rattle.field_written.specs.declared.Sign.{Sign}
 use Rattle.field_written.specs.declared.Sign.the-variants.{None, Plus, Minus}
@@ -208,10 +208,6 @@ not-stars {g} {f} {w} t e =
     (sym first ∙ ap (λ (x : List ℕ). getD x k 0) e ∙ getD-replicate w k asterisk 0 b)
 
 -- ---- no other numeral is written so
-
-value-none : value [] ≡ 0
-unfolding value
-value-none = refl
 
 value-zero : value (digitZero ∷ []) ≡ 0
 unfolding value

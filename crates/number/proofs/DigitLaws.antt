@@ -12,7 +12,7 @@ use lib.Arith.{digits-lt, digits-div, digits-mod, mod-mul}
 use lib.Dec.{leb, ltb}
 use lib.ListN.{length, getD, length-append}
 use lib.Pow.{pow-add}
-use Rattle.number.specs.Digits.{Digits, allDigits, value, digitsOf, countDigits, digitCount}
+use Rattle.number.specs.Digits.{isDigit, Digits, allDigits, value, digitsOf, countDigits, digitCount}
 use Rattle.number.specs.Promises.{DigitCountIs, AllDigitsIs}
 use Rattle.number.proofs.PowerLaws.{ten-pos, ten-le}
 
@@ -84,18 +84,22 @@ unfolding allDigits
 all-digits [] h = refl
 all-digits (x ∷ xs) h = simp (le-leb 48 x (h .0), le-leb x 57 (h .1), all-digits xs (h .2))
 
+pub digit-bounds : (x : ℕ) → isDigit x ≡ true → (48 ≤ x) × (x ≤ 57)
+digit-bounds x e = go (leb 48 x) (leb x 57) refl refl e
+  where
+    go : (a b : Bool) → leb 48 x ≡ a → leb x 57 ≡ b → (a && b) ≡ true → (48 ≤ x) × (x ≤ 57)
+    go true true p q f = (leb-true 48 x p, leb-true x 57 q)
+    go true false p q f = absurd (false≢true f)
+    go false b p q f = absurd (false≢true f)
+
 digits-all : (ds : List ℕ) → allDigits ds ≡ true → Digits ds
 unfolding allDigits
 digits-all [] e = tt
-digits-all (x ∷ xs) e = go (digits-all xs) (leb 48 x) (leb x 57) refl refl e
+digits-all (x ∷ xs) e = go (digits-all xs) (isDigit x) refl e
   where
-    never : {A : Type 0} → false ≡ true → A
-    never f = absurd (false≢true f)
-
-    go : (allDigits xs ≡ true → Digits xs) → (a b : Bool) → leb 48 x ≡ a → leb x 57 ≡ b → ((a && b) && allDigits xs) ≡ true → Digits (x ∷ xs)
-    go r true true p q f = (leb-true 48 x p, leb-true x 57 q, r f)
-    go r true false p q f = never f
-    go r false b p q f = never f
+    go : (allDigits xs ≡ true → Digits xs) → (a : Bool) → isDigit x ≡ a → (a && allDigits xs) ≡ true → Digits (x ∷ xs)
+    go r true p f = (digit-bounds x p .0, digit-bounds x p .1, r f)
+    go r false p f = absurd (false≢true f)
 
 pub all-digits-is : AllDigitsIs
 all-digits-is ds = (digits-all ds, all-digits ds)
@@ -131,6 +135,10 @@ unfolding value
 value-below [] h = omega arith
 value-below (x ∷ xs) h =
     rw (pow-succ' 10 (length xs)) (digits-lt {q = x - 48} {m = 10} (omega arith) (value-below xs (h .2)))
+
+pub value-none : value [] ≡ 0
+unfolding value
+value-none = refl
 
 pub value-append : (xs ys : List ℕ) → value (xs ++ ys) ≡ value xs * 10 ^ length ys + value ys
 unfolding value

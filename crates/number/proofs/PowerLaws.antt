@@ -2,8 +2,7 @@
 -- Assumes nothing.
 use mathlib.Core.Path.{_≡_, ap, _∙_}
 use Prim.Native.Nat.{ℕ, zero, suc, _+_, _-_, _*_, _/_, _^_, _<_, _≤_}
-use native.Mathlib.Decide.{decLt}
-use native.Mathlib.Nat.{lt-irrefl, lt-of-lt-of-le, pow-le-pow-right, one-le-pow, pow-suc, not-suc-le-zero, le-of-suc-le-suc}
+use native.Mathlib.Nat.{pow-le-pow-right, one-le-pow, pow-suc, not-suc-le-zero, le-of-suc-le-suc}
 use native.Mathlib.Omega.{arith}
 use lib.ListN.{getD}
 use lib.Pow.{pow-add}
@@ -14,10 +13,6 @@ ten-pos k = one-le-pow k 10 (omega arith)
 
 pub ten-le : {i j : ℕ} → i ≤ j → 10 ^ i ≤ 10 ^ j
 ten-le h = pow-le-pow-right {n = 10} (omega arith) h
-
-pub lt-of-ten : (i j : ℕ) → 10 ^ i < 10 ^ j → i < j
-lt-of-ten i j h =
-    elim (decLt i j) [ yes g ↦ g | no g ↦ absurd (lt-irrefl _ (lt-of-lt-of-le h (ten-le {i = j} {j = i} (omega arith)))) ]
 
 pub ten-split : (s d : ℕ) → s ≤ d → 10 ^ d ≡ 10 ^ (d - s) * 10 ^ s
 ten-split s d h =

@@ -2,10 +2,20 @@
 ghost use mathlib.Core.Path.{_≡_};
 ghost use Prim.Native.Nat.{_<_, _≤_};
 ghost use Rattle.number.specs.Limits.{largest};
-ghost use Rattle.number.specs.Digits.{digitCount};
+ghost use Rattle.number.specs.Digits.{isDigit, digitCount};
 
 // The digits of the largest magnitude.
 const MOST_DIGITS: usize = 18;
+
+// Whether a byte is a digit.
+pub fn is_digit(b: u8) -> bool
+    ensures { λ r. ⌜ r ≡ isDigit b ⌝ }
+{
+    if b < b'0' {
+        return false;
+    }
+    b <= b'9'
+}
 
 // How many digits m has, no leading zero.
 pub fn digit_count(m: u64) -> usize

@@ -1,8 +1,11 @@
 -- `field_read::digits::read_run` meets its contract.
 -- Assumes nothing.
+use mathlib.Core.Path.{sym, _∙_}
 use Prim.Native.Nat.{_-_}
 use native.Mathlib.Omega.{arith}
-use lib.ListN.{length}
+use denote.Ref.{now}
+use lib.ListN.{length, getD}
+use Rattle.number.proofs.DigitLaws.{digit-bounds}
 use Rattle.field_read.proofs.Running.{Running, running-none, running-blank, running-stop, running-digit, running-over}
 use Rattle.field_read.proofs.digits.read_run.Statement.{statement}
 use Rattle.field_read.proofs.digits.read_run.Tie as tie
@@ -28,26 +31,30 @@ loop-less c = omega arith
 loop-again : tie.Need-loop-again Inv-loop μ-loop
 loop-again c = running-blank (c .before .before .before .loop .inv) (c .before .before .loop-test .taken) (c .if1 .taken)
 
-returns : tie.Need-returns Inv-loop μ-loop
-returns c = running-stop (c .before .before .before .before .loop .inv) (λ _. c .before .if1 .left) (λ _ g. omega arith)
-
-returns-2 : tie.Need-returns-2 Inv-loop μ-loop
-returns-2 c = running-stop (c .before .before .before .before .before .loop .inv) (λ _. c .before .before .if1 .left) (λ _ g. c .if3 .taken)
+is-digit-requires : tie.Need-is-digit-requires Inv-loop μ-loop
+is-digit-requires c κs = tt
 
 mul-value : tie.Need-mul-value Inv-loop μ-loop
 mul-value c = omega arith
+
+sub-wide : tie.Need-sub-wide Inv-loop μ-loop
+sub-wide c = digit-bounds _ (sym (c .before .is-digit .ensures) ∙ c .if2 .taken) .0
 
 wide-requires : tie.Need-wide-requires Inv-loop μ-loop
 wide-requires c κs = tt
 
 add-value : tie.Need-add-value Inv-loop μ-loop
-add-value c = omega (arith, c .wide .ensures)
+add-value c =
+    let l = c .before .before .before .before .before .before in
+    let b = getD (now (l .before .before .args .part)) (l .loop .i) 0 in
+    omega (arith, c .wide .ensures, digit-bounds b (sym (c .before .before .is-digit .ensures) ∙ c .before .if2 .taken) .1)
 
-returns-3 : tie.Need-returns-3 Inv-loop μ-loop
-returns-3 c =
+returns : tie.Need-returns Inv-loop μ-loop
+returns c =
     let f = c .before .before .before .before in
     let t = f .before .before in
-    running-over (t .before .loop .inv) (t .loop-test .taken) (f .if1 .left) (c .before .before .before .if2 .left) (c .before .before .if3 .left)
+    running-over (t .before .loop .inv) (t .loop-test .taken) (f .if1 .left)
+    (sym (c .before .before .before .is-digit .ensures) ∙ c .before .before .if2 .taken)
     (omega (arith, c .before .wide .ensures))
 
 add-count : tie.Need-add-count Inv-loop μ-loop
@@ -64,11 +71,17 @@ loop-again-2 c =
     let f = c .before .before .before .before in
     let t = f .before .before in
     rw (c .before .wide .ensures)
-    (running-digit (t .before .loop .inv) (t .loop-test .taken) (f .if1 .left) (c .before .before .before .if2 .left) (c .before .before .if3 .left)
+    (running-digit (t .before .loop .inv) (t .loop-test .taken) (f .if1 .left)
+    (sym (c .before .before .before .is-digit .ensures) ∙ c .before .before .if2 .taken)
     (omega (arith, c .before .wide .ensures)))
 
-returns-4 : tie.Need-returns-4 Inv-loop μ-loop
-returns-4 c = running-stop (c .before .loop .inv) (λ h _. omega arith) (λ h _. omega arith)
+returns-2 : tie.Need-returns-2 Inv-loop μ-loop
+returns-2 c =
+    running-stop (c .before .before .before .before .before .loop .inv) (λ _. c .before .before .if1 .left)
+    (λ _. sym (c .before .is-digit .ensures) ∙ c .if2 .left)
+
+returns-3 : tie.Need-returns-3 Inv-loop μ-loop
+returns-3 c = running-stop (c .before .loop .inv) (λ h _. omega arith) (λ h. absurd (omega arith))
 
 pub read-run-spec : {M : Type 1} → statement M
 read-run-spec =
@@ -81,14 +94,15 @@ read-run-spec =
     add-i
     loop-less
     loop-again
-    returns
-    returns-2
+    is-digit-requires
     mul-value
+    sub-wide
     wide-requires
     add-value
-    returns-3
+    returns
     add-count
     add-i-2
     loop-less-2
     loop-again-2
-    returns-4)
+    returns-2
+    returns-3)
