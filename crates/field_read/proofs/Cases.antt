@@ -67,12 +67,12 @@ module _ {s : List ℕ} {at : ℕ} (w : Skipped s at) where
 -- ---- a run of digits
 
 -- up to the end of s
-run-all : {s : List ℕ} {from v sum count next : ℕ} (r : Ran s from v sum count next) → length s ≤ next → unblanked (drop from s) ≡ r .digits
-run-all {s} {from} {v} {sum} {count} {next} r h = r .rest ∙ rw (at-end s next h) (append-nil (r .digits))
+run-all : {s : List ℕ} {from v sum count next : ℕ} (r : Ran s from v sum count next) → length s ≤ next → unblanked (drop from s) ≡ r .run .digits
+run-all {s} {from} {v} {sum} {count} {next} r h = r .run .rest ∙ rw (at-end s next h) (append-nil (r .run .digits))
 
 -- up to a byte that is no digit
-run-part : {s : List ℕ} {from v sum count next : ℕ} (r : Ran s from v sum count next) → next < length s → unblanked (drop from s) ≡ r .digits ++ (getD s next 0 ∷ unblanked (drop (next + 1) s))
-run-part {s} {from} {v} {sum} {count} {next} r h = r .rest ∙ rw (at-other s next h (r .no-blank h))
+run-part : {s : List ℕ} {from v sum count next : ℕ} (r : Ran s from v sum count next) → next < length s → unblanked (drop from s) ≡ r .run .digits ++ (getD s next 0 ∷ unblanked (drop (next + 1) s))
+run-part {s} {from} {v} {sum} {count} {next} r h = r .run .rest ∙ rw (at-other s next h (r .no-blank h))
 
 sums : (pre ds : List ℕ) {v : ℕ} → v ≡ value pre → value (pre ++ ds) ≡ v * 10 ^ length ds + value ds
 sums pre ds h = value-append pre ds ∙ rw h
@@ -81,14 +81,14 @@ sums pre ds h = value-append pre ds ∙ rw h
 module _ {s : List ℕ} {from v : ℕ} (sign : Sign) (p : ℕ) (x y pre : List ℕ) (e : x ++ y ≡ pre ++ unblanked (drop from s)) (d : Digits pre) (hv : v ≡ value pre) where
   pub run-ended : {sum count next : ℕ} → Ran s from v sum count next → length s ≤ next → length y ≤ 9 → cond (eqb (length pre + count) 0) Refused (Number (signed sign sum) p) ≡ numberRead sign p x y
   run-ended {sum} {count} {next} r h l =
-      let q : x ++ y ≡ pre ++ r .digits = e ∙ rw (run-all r h) in
-      let v : value (x ++ y) ≡ sum = ap value q ∙ sums pre (r .digits) hv ∙ sym (r .is) in
-      let n : length (x ++ y) ≡ length pre + count = ap length q ∙ length-append pre (r .digits) ∙ rw (r .many) in
-      sym (number-good sign p x y (rw q (digits-append pre (r .digits) d (r .all))) l (rw v (r .low)) ∙ rw (v, n))
+      let q : x ++ y ≡ pre ++ r .run .digits = e ∙ rw (run-all r h) in
+      let v : value (x ++ y) ≡ sum = ap value q ∙ sums pre (r .run .digits) hv ∙ sym (r .run .is) in
+      let n : length (x ++ y) ≡ length pre + count = ap length q ∙ length-append pre (r .run .digits) ∙ rw (r .run .many) in
+      sym (number-good sign p x y (rw q (digits-append pre (r .run .digits) d (r .run .all))) l (rw v (r .run .low)) ∙ rw (v, n))
 
   pub run-stopped : {sum count next : ℕ} → Ran s from v sum count next → next < length s → Refused ≡ numberRead sign p x y
   run-stopped {sum} {count} {next} r h =
-      sym (number-bad sign p x y (pre ++ r .digits) (getD s next 0) (unblanked (drop (next + 1) s)) (e ∙ rw (run-part r h, append-assoc)) (r .no-digit h))
+      sym (number-bad sign p x y (pre ++ r .run .digits) (getD s next 0) (unblanked (drop (next + 1) s)) (e ∙ rw (run-part r h, append-assoc)) (r .no-digit h))
 
   pub run-over : RunTooLarge s from v → Refused ≡ numberRead sign p x y
   run-over r =
@@ -115,13 +115,13 @@ module _ {s : List ℕ} {from v : ℕ} (sign : Sign) (whole : List ℕ) (d : Dig
   pub fraction-ended : {sum count places next : ℕ} → count ≡ length whole → Ran s from v sum places next → length s ≤ next → places ≤ 9 → cond (eqb (count + places) 0) Refused (Number (signed sign sum) places) ≡ numberRead sign (length (unblanked (drop from s))) whole (unblanked (drop from s))
   fraction-ended {sum} {count} {places} {next} n r h l =
       let t : List ℕ = unblanked (drop from s) in
-      let m : length t ≡ places = ap length (run-all r h) ∙ sym (r .many) in
+      let m : length t ≡ places = ap length (run-all r h) ∙ sym (r .run .many) in
       rw (n, ← m) (rw (← m) at (run-ended {s = s} {from = from} sign (length t) whole t whole refl d hv r h (omega arith)))
 
   pub fraction-long : {sum places next : ℕ} → Ran s from v sum places next → length s ≤ next → 9 < places → Refused ≡ numberRead sign (length (unblanked (drop from s))) whole (unblanked (drop from s))
   fraction-long r h l =
       let t : List ℕ = unblanked (drop from s) in
-      sym (number-long sign (length t) whole t (omega (arith, ap length (run-all r h), r .many)))
+      sym (number-long sign (length t) whole t (omega (arith, ap length (run-all r h), r .run .many)))
 
   pub fraction-stopped : {sum places next : ℕ} → Ran s from v sum places next → next < length s → Refused ≡ numberRead sign (length (unblanked (drop from s))) whole (unblanked (drop from s))
   fraction-stopped r h =
@@ -138,27 +138,27 @@ module _ {s : List ℕ} {from v : ℕ} (sign : Sign) (whole : List ℕ) (d : Dig
 module _ {s : List ℕ} {from : ℕ} (sign : Sign) (d : ℕ) where
   pub units-ended : {sum count next : ℕ} → Ran s from 0 sum count next → length s ≤ next → cond (eqb count 0) Refused (Number (signed sign sum) d) ≡ readDigits (F d) sign (unblanked (drop from s))
   units-ended {sum} {count} {next} r h =
-      let ds : List ℕ = r .digits in
+      let ds : List ℕ = r .run .digits in
       let a : cond (eqb (0 + count) 0) Refused (Number (signed sign sum) d) ≡ numberRead sign d ds [] =
       run-ended {s = s} {from = from} sign d ds [] [] (append-nil ds ∙ sym (run-all r h)) tt (sym value-none) r h (omega arith) in
-      (rw zero-add at a) ∙ rw (run-all r h) (simp (before-all ds (r .all), from-all ds (r .all)))
+      (rw zero-add at a) ∙ rw (run-all r h) (simp (before-all ds (r .run .all), from-all ds (r .run .all)))
 
   pub units-other : {sum count next : ℕ} → Ran s from 0 sum count next → next < length s → (getD s next 0 ≡ 46 → ⊥) → Refused ≡ readDigits (F d) sign (unblanked (drop from s))
   units-other {sum} {count} {next} r h n =
-      let ds : List ℕ = r .digits in
+      let ds : List ℕ = r .run .digits in
       let c : ℕ = getD s next 0 in
       let t : List ℕ = unblanked (drop (next + 1) s) in
       let y : List ℕ = drop 1 (fromPoint (ds ++ (c ∷ t))) in
       let b : beforePoint (ds ++ (c ∷ t)) ++ y ≡ ds ++ (c ∷ (beforePoint t ++ y)) =
-      rw (before-digits ds (c ∷ t) (r .all), before-other c t n) (append-assoc ds (c ∷ beforePoint t) y) in
+      rw (before-digits ds (c ∷ t) (r .run .all), before-other c t n) (append-assoc ds (c ∷ beforePoint t) y) in
       rw (run-part r h) (sym (number-bad sign (placesRead d (ds ++ (c ∷ t))) (beforePoint (ds ++ (c ∷ t))) y ds c (beforePoint t ++ y) b (r .no-digit h)))
 
-  pub units-pointed : {sum count next : ℕ} (r : Ran s from 0 sum count next) → next < length s → getD s next 0 ≡ 46 → numberRead sign (length (unblanked (drop (next + 1) s))) (r .digits) (unblanked (drop (next + 1) s)) ≡ readDigits (F d) sign (unblanked (drop from s))
+  pub units-pointed : {sum count next : ℕ} (r : Ran s from 0 sum count next) → next < length s → getD s next 0 ≡ 46 → numberRead sign (length (unblanked (drop (next + 1) s))) (r .run .digits) (unblanked (drop (next + 1) s)) ≡ readDigits (F d) sign (unblanked (drop from s))
   units-pointed {sum} {count} {next} r h e =
-      let ds : List ℕ = r .digits in
+      let ds : List ℕ = r .run .digits in
       let y : List ℕ = unblanked (drop (next + 1) s) in
-      let b : beforePoint (ds ++ (46 ∷ y)) ≡ ds = before-digits ds (46 ∷ y) (r .all) ∙ rw (at-point y .0) (append-nil ds) in
-      let f : fromPoint (ds ++ (46 ∷ y)) ≡ 46 ∷ y = from-digits ds (46 ∷ y) (r .all) ∙ at-point y .1 in
+      let b : beforePoint (ds ++ (46 ∷ y)) ≡ ds = before-digits ds (46 ∷ y) (r .run .all) ∙ rw (at-point y .0) (append-nil ds) in
+      let f : fromPoint (ds ++ (46 ∷ y)) ≡ 46 ∷ y = from-digits ds (46 ∷ y) (r .run .all) ∙ at-point y .1 in
       rw (run-part r h, e) (simp (b, f, lt-ltb 0 (suc (length y)) (omega arith)))
 
   pub units-over : RunTooLarge s from 0 → Refused ≡ readDigits (F d) sign (unblanked (drop from s))

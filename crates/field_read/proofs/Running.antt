@@ -12,27 +12,16 @@ use Rattle.number.specs.Limits.{largest}
 use Rattle.number.specs.Digits.{isDigit, Digits, value}
 use Rattle.number.proofs.DigitLaws.{digit-bounds, value-append, digits-append}
 use Rattle.field_read.specs.Read.{unblanked}
-use Rattle.field_read.specs.Steps.{Ran, RunTooLarge}
+use Rattle.field_read.specs.Steps.{RunSoFar, Ran, RunTooLarge}
 use Rattle.field_read.proofs.Blanks.{at-blank, at-other}
 
--- up to i stand `count` digits, which after v make the number `sum`
-pub record Running (s : List ℕ) (from v sum count i : ℕ) : Type 0 where
-  pub digits : List ℕ
-  pub all : Digits digits
-  pub rest : unblanked (drop from s) ≡ digits ++ unblanked (drop i s)
-  pub many : count ≡ length digits
-  pub is : sum ≡ v * 10 ^ length digits + value digits
-  pub low : sum ≤ largest
-  pub past : i ≤ length s
-  pub fewer : count ≤ i
-
-pub running-none : {s : List ℕ} {from v : ℕ} → from ≤ length s → v ≤ largest → Running s from v v 0 from
+pub running-none : {s : List ℕ} {from v : ℕ} → from ≤ length s → v ≤ largest → RunSoFar s from v v 0 from
 unfolding value
 running-none {s} {from} {v} h l =
     record { digits = []; all = tt; rest = refl; many = refl; is = omega arith; low = l; past = h; fewer = omega arith }
 
-module _ {s : List ℕ} {from v sum count i : ℕ} (w : Running s from v sum count i) where
-  pub running-blank : i < length s → getD s i 0 ≡ 32 → Running s from v sum count (i + 1)
+module _ {s : List ℕ} {from v sum count i : ℕ} (w : RunSoFar s from v sum count i) where
+  pub running-blank : i < length s → getD s i 0 ≡ 32 → RunSoFar s from v sum count (i + 1)
   running-blank h e =
       record {
         digits = w .digits;
@@ -46,19 +35,7 @@ module _ {s : List ℕ} {from v sum count i : ℕ} (w : Running s from v sum cou
       }
 
   pub running-stop : (i < length s → getD s i 0 ≡ 32 → ⊥) → (i < length s → isDigit (getD s i 0) ≡ false) → Ran s from v sum count i
-  running-stop a b =
-      record {
-        digits = w .digits;
-        all = w .all;
-        rest = w .rest;
-        many = w .many;
-        is = w .is;
-        low = w .low;
-        past = w .past;
-        fewer = w .fewer;
-        no-blank = a;
-        no-digit = b;
-      }
+  running-stop a b = record { run = w; no-blank = a; no-digit = b }
 
   module _ (h : i < length s) (n : getD s i 0 ≡ 32 → ⊥) (e : isDigit (getD s i 0) ≡ true) where
     -- the digits with the one at i
@@ -84,7 +61,7 @@ module _ {s : List ℕ} {from v sum count i : ℕ} (w : Running s from v sum cou
         let p : 10 ^ length one ≡ 10 ^ length (w .digits) * 10 = rw (one-long, add-one) (pow-suc 10 (length (w .digits))) in
         rw (e, p) (omega (arith, w .is))
 
-    pub running-digit : sum * 10 + (getD s i 0 - 48) ≤ largest → Running s from v (sum * 10 + (getD s i 0 - 48)) (count + 1) (i + 1)
+    pub running-digit : sum * 10 + (getD s i 0 - 48) ≤ largest → RunSoFar s from v (sum * 10 + (getD s i 0 - 48)) (count + 1) (i + 1)
     running-digit b =
         record {
           digits = one;

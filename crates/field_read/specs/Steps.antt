@@ -33,9 +33,9 @@ abbrev pub FrontIs : List ℕ → Front → Type 0
 FrontIs s Nothing = unblanked s ≡ []
 FrontIs s (Found sign from) = Signed s sign from
 
--- from `from` on stand `count` digits, blanks among them, which after the number v make the number m; at `next` stands
--- something else, or s ends. (`fewer`: so that `count` does not overflow.)
-pub record Ran (s : List ℕ) (from v m count next : ℕ) : Type 0 where
+-- between `from` and `next` stand `count` digits, blanks among them, which after the number v make the number m.
+-- (`fewer`: so that `count` does not overflow.)
+pub record RunSoFar (s : List ℕ) (from v m count next : ℕ) : Type 0 where
   pub digits : List ℕ
   pub all : Digits digits
   pub rest : unblanked (drop from s) ≡ digits ++ unblanked (drop next s)
@@ -44,6 +44,10 @@ pub record Ran (s : List ℕ) (from v m count next : ℕ) : Type 0 where
   pub low : m ≤ largest
   pub past : next ≤ length s
   pub fewer : count ≤ next
+
+-- and at `next` stands something else, or s ends
+pub record Ran (s : List ℕ) (from v m count next : ℕ) : Type 0 where
+  pub run : RunSoFar s from v m count next
   pub no-blank : next < length s → getD s next 0 ≡ blank → ⊥
   pub no-digit : next < length s → isDigit (getD s next 0) ≡ false
 

@@ -15,8 +15,8 @@ use Rattle.field_read.proofs.decimal.read_units.Tie as tie
 found : (c : tie.After-known-told) → Ran (now (c .before .before .before .before .before .args .part)) (c .before .before .before .before .before .args .from) 0 (c .before .value .given .0 .0) (c .before .value .given .0 .1 .0) (c .before .value .given .0 .1 .1 .0)
 found c = subst (RunIs _ _ _) (c .before .value .given .1) (c .before .before .before .read-run .ensures)
 
-whole : (c : tie.After-known-told) → c .before .value .given .0 .0 ≡ value (found c .digits)
-whole c = found c .is ∙ omega arith
+whole : (c : tie.After-known-told) → c .before .value .given .0 .0 ≡ value (found c .run .digits)
+whole c = found c .run .is ∙ omega arith
 
 whole-large : (c : tie.After-enum-told2) → RunTooLarge (now (c .before .before .before .before .args .part)) (c .before .before .before .before .args .from) 0
 whole-large c = subst (RunIs _ _ _) (c .enum-told2 .given .1) (c .before .before .read-run .ensures)
@@ -35,7 +35,7 @@ enum-known-value : tie.Need-enum-known-value
 enum-known-value c = search needs
 
 number-of-requires : tie.Need-number-of-requires
-number-of-requires c κs = found (c .before) .low
+number-of-requires c κs = found (c .before) .run .low
 
 returns : tie.Need-returns
 returns c = c .number-of .ensures ∙ units-ended (c .before .before .before .before .before .before .before .args .sign) (c .before .before .before .before .before .before .before .args .d) (found (c .before .before)) (c .before .if1 .taken)
@@ -50,7 +50,7 @@ add-read-run : tie.Need-add-read-run
 add-read-run c = search needs
 
 read-run-requires-2 : tie.Need-read-run-requires-2
-read-run-requires-2 c κs = (omega arith, found (c .before .before .before) .low)
+read-run-requires-2 c κs = (omega arith, found (c .before .before .before) .run .low)
 
 enum-known-units : tie.Need-enum-known-units
 enum-known-units c = search needs
@@ -60,7 +60,7 @@ returns-3 c =
     let t = c .before in
     let i = t .before .before .before .before in
     let k = i .before .before .before in
-    fraction-stopped (c .before .before .before .before .before .before .before .before .before .before .before .before .before .args .sign) _ (found k .all) (whole k) (fraction t) (c .if3 .taken)
+    fraction-stopped (c .before .before .before .before .before .before .before .before .before .before .before .before .before .args .sign) _ (found k .run .all) (whole k) (fraction t) (c .if3 .taken)
     ∙ units-pointed (c .before .before .before .before .before .before .before .before .before .before .before .before .before .args .sign) (c .before .before .before .before .before .before .before .before .before .before .before .before .before .args .d) (found k) (i .before .before .if1 .left) (i .if2 .left)
 
 returns-4 : tie.Need-returns-4
@@ -68,17 +68,17 @@ returns-4 c =
     let t = c .before .before in
     let i = t .before .before .before .before in
     let k = i .before .before .before in
-    fraction-long (c .before .before .before .before .before .before .before .before .before .before .before .before .before .before .args .sign) _ (found k .all) (whole k) (fraction t) (c .before .if3 .left) (c .if4 .taken)
+    fraction-long (c .before .before .before .before .before .before .before .before .before .before .before .before .before .before .args .sign) _ (found k .run .all) (whole k) (fraction t) (c .before .if3 .left) (c .if4 .taken)
     ∙ units-pointed (c .before .before .before .before .before .before .before .before .before .before .before .before .before .before .args .sign) (c .before .before .before .before .before .before .before .before .before .before .before .before .before .before .args .d) (found k) (i .before .before .if1 .left) (i .if2 .left)
 
 add-number-of : tie.Need-add-number-of
 add-number-of c =
     let t = c .before .before in
     let k = t .before .before .before .before .before .before .before in
-    omega (arith, found k .fewer, found k .past)
+    omega (arith, found k .run .fewer, found k .run .past)
 
 number-of-requires-2 : tie.Need-number-of-requires-2
-number-of-requires-2 c κs = fraction (c .before .before) .low
+number-of-requires-2 c κs = fraction (c .before .before) .run .low
 
 enum-told : tie.Need-enum-told
 enum-told c = search needs
@@ -92,14 +92,14 @@ returns-5 c =
     let i = t .before .before .before .before in
     let k = i .before .before .before in
     c .number-of2 .ensures
-    ∙ fraction-ended (c .before .before .before .before .before .before .before .before .before .before .before .before .before .before .before .args .sign) _ (found k .all) (whole k) (found k .many) (fraction t) (c .before .before .if3 .left) (c .before .if4 .left)
+    ∙ fraction-ended (c .before .before .before .before .before .before .before .before .before .before .before .before .before .before .before .args .sign) _ (found k .run .all) (whole k) (found k .run .many) (fraction t) (c .before .before .if3 .left) (c .before .if4 .left)
     ∙ units-pointed (c .before .before .before .before .before .before .before .before .before .before .before .before .before .before .before .args .sign) (c .before .before .before .before .before .before .before .before .before .before .before .before .before .before .before .args .d) (found k) (i .before .before .if1 .left) (i .if2 .left)
 
 returns-6 : tie.Need-returns-6
 returns-6 c =
     let i = c .before .before .before in
     let k = i .before .before .before in
-    fraction-over (c .before .before .before .before .before .before .before .before .before .before .before .args .sign) _ (found k .all) (whole k) (fraction-large c)
+    fraction-over (c .before .before .before .before .before .before .before .before .before .before .before .args .sign) _ (found k .run .all) (whole k) (fraction-large c)
     ∙ units-pointed (c .before .before .before .before .before .before .before .before .before .before .before .args .sign) (c .before .before .before .before .before .before .before .before .before .before .before .args .d) (found k) (i .before .before .if1 .left) (i .if2 .left)
 
 returns-7 : tie.Need-returns-7

@@ -6,12 +6,13 @@ use native.Mathlib.Omega.{arith}
 use denote.Ref.{now}
 use lib.ListN.{length, getD}
 use Rattle.number.proofs.DigitLaws.{digit-bounds}
-use Rattle.field_read.proofs.Running.{Running, running-none, running-blank, running-stop, running-digit, running-over}
+use Rattle.field_read.specs.Steps.{RunSoFar}
+use Rattle.field_read.proofs.Running.{running-none, running-blank, running-stop, running-digit, running-over}
 use Rattle.field_read.proofs.digits.read_run.Statement.{statement}
 use Rattle.field_read.proofs.digits.read_run.Tie as tie
 
 abbrev Inv-loop : tie.InvT-loop
-Inv-loop part from v value₀ count₀ i₀ value count i = Running part from v value count i
+Inv-loop part from v value₀ count₀ i₀ value count i = RunSoFar part from v value count i
 
 abbrev μ-loop : tie.MeasureT-loop
 μ-loop part from v value₀ count₀ i₀ value count i = length part - i

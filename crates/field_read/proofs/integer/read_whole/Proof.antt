@@ -25,7 +25,7 @@ returns : tie.Need-returns
 returns c = whole-stopped (c .before .before .before .before .before .before .args .sign) (found (c .before)) (c .if1 .taken)
 
 number-of-requires : tie.Need-number-of-requires
-number-of-requires c κs = found (c .before) .low
+number-of-requires c κs = found (c .before) .run .low
 
 enum-told : tie.Need-enum-told
 enum-told c = search needs
