@@ -1,0 +1,9 @@
+pub mod Characters
+pub mod Items
+pub mod Grammar
+pub mod Ranges
+pub mod Size
+pub mod Met
+pub mod Reading
+pub mod Check
+pub mod Promises

@@ -1,0 +1,101 @@
+-- What the theorems of proofs/Promises.antt say of formats.
+-- Assumes nothing.
+use mathlib.Core.Path.{_≡_}
+use mathlib.Core.Logic.{_↔_}
+use mathlib.Core.Bool.{false}
+use mathlib.Core.List.{List, [], _∷_, _++_}
+use Prim.Native.Nat.{ℕ, _<_, _≤_}
+use lib.ListN.{length, drop}
+use Rattle.format_grammar.specs.Items.{valueOf, Repeat, Items, join}
+use Rattle.format_grammar.specs.Grammar.{Format, LongestShared}
+use Rattle.format_grammar.specs.Ranges.{Ranged, ranged, place, numbers}
+use Rattle.format_grammar.specs.Size.{size, largestSize}
+use Rattle.format_grammar.specs.Met.{met, hasGroup, returnPart, returnIndex}
+use Rattle.format_grammar.specs.Check.{longestFormat, accepted, refused, outcome}
+use Rattle.format_grammar.specs.declared.FormatRefusal.the-variants.{Length, Grammar, Range, Size}
+
+-- ---- numbers and their ranges
+
+abbrev pub Within : Ranged → Type 0
+Within (ranged n low high) = (low ≤ valueOf n) × (valueOf n ≤ high)
+
+abbrev pub AllWithin : List Ranged → Type 0
+AllWithin [] = Unit {0}
+AllWithin (n ∷ ns) = Within n × AllWithin ns
+
+-- the first number out of its range stands at offset p
+pub record FirstOut (ns : List Ranged) (p : ℕ) : Type 0 where
+  pub before : List Ranged
+  pub n : Ranged
+  pub after : List Ranged
+  pub split : ns ≡ before ++ n ∷ after
+  pub fine : AllWithin before
+  pub out : Within n → ⊥
+  pub stands : place n ≡ p
+
+-- ---- the format check: what is accepted and what each row refuses, in terms of the grammar
+
+pub record Acceptable (s : List ℕ) (xs : Items) : Type 0 where
+  pub short : length s ≤ longestFormat
+  pub format : Format s xs
+  pub ranges : AllWithin (numbers xs)
+  pub small : size xs ≤ largestSize
+
+-- row 3
+pub record NotGrammatical (s : List ℕ) (p : ℕ) : Type 0 where
+  pub short : length s ≤ longestFormat
+  pub no-reading : (xs : Items) → Format s xs → ⊥
+  pub place-is : LongestShared s p
+
+-- row 4
+pub record OutOfRange (s : List ℕ) (p : ℕ) : Type 0 where
+  pub short : length s ≤ longestFormat
+  pub reading : Items
+  pub format : Format s reading
+  pub first : FirstOut (numbers reading) p
+
+-- row 5
+pub record TooLarge (s : List ℕ) : Type 0 where
+  pub short : length s ≤ longestFormat
+  pub reading : Items
+  pub format : Format s reading
+  pub ranges : AllWithin (numbers reading)
+  pub large : largestSize < size reading
+
+-- accepted, as these items, is exactly what the grammar relates to them, within ranges and limits
+abbrev pub AcceptsExactly : Type 0
+AcceptsExactly = (s : List ℕ) (xs : Items) → (outcome s ≡ accepted xs) ↔ Acceptable s xs
+
+-- each text has at most one reading as items
+abbrev pub OneReading : Type 0
+OneReading = (s : List ℕ) (xs ys : Items) → Format s xs → Format s ys → xs ≡ ys
+
+abbrev pub LengthRefused : Type 0
+LengthRefused = (s : List ℕ) → (outcome s ≡ refused Length) ↔ (longestFormat < length s)
+
+abbrev pub GrammarRefused : Type 0
+GrammarRefused = (s : List ℕ) (p : ℕ) → (outcome s ≡ refused (Grammar p)) ↔ NotGrammatical s p
+
+abbrev pub RangeRefused : Type 0
+RangeRefused = (s : List ℕ) (p : ℕ) → (outcome s ≡ refused (Range p)) ↔ OutOfRange s p
+
+abbrev pub SizeRefused : Type 0
+SizeRefused = (s : List ℕ) → (outcome s ≡ refused Size) ↔ TooLarge s
+
+-- ---- the items met
+
+-- as many as the size
+abbrev pub MetIsSize : Type 0
+MetIsSize = (xs : Items) → length (met xs) ≡ size xs
+
+-- the part to return to: all of the items where none is a group, else the rightmost group and what follows it
+pub data ReturnsTo (xs : Items) : Items → Type 0 where
+  whole : hasGroup xs ≡ false → ReturnsTo xs xs
+  last : (before : Items) {inside after : Items} {r : Repeat} → xs ≡ join before (Items.group r inside after) → hasGroup after ≡ false → ReturnsTo xs (Items.group r inside after)
+
+abbrev pub ReturnPartIs : Type 0
+ReturnPartIs = (xs : Items) → ReturnsTo xs (returnPart xs)
+
+-- from the index on, the items met are those of the part
+abbrev pub ReturnIndexIs : Type 0
+ReturnIndexIs = (xs : Items) → drop (returnIndex xs) (met xs) ≡ met (returnPart xs)
