@@ -1,0 +1,57 @@
+-- An item met as one number, a word: its kind, and up to two numbers. The characters of literals are kept beside the words.
+-- Assumes nothing.
+use mathlib.Core.Bool.{Bool, true, false, cond}
+use mathlib.Core.List.{List}
+use Prim.Native.Nat.{ℕ, _+_, _*_, _/_, _%_}
+use lib.Dec.{eqb}
+use lib.ListN.{take, drop}
+use Rattle.format_grammar.specs.Items.{Field}
+use Rattle.format_grammar.specs.Met.{Met}
+
+-- a word of a kind below 16, with a first number below 1,024 and a second one
+abbrev pub word : ℕ → ℕ → ℕ → ℕ
+word kind first second = (second * 1024 + first) * 16 + kind
+
+abbrev pub kindOf : ℕ → ℕ
+kindOf w = w % 16
+
+abbrev pub firstOf : ℕ → ℕ
+firstOf w = w / 16 % 1024
+
+abbrev pub secondOf : ℕ → ℕ
+secondOf w = w / 16384
+
+abbrev pub pickMet : Bool → Met → Met → Met
+pickMet true a b = a
+pickMet false a b = b
+
+-- the item met that a word stands for; a literal's numbers are the offset and the count of its characters in t
+unfoldable pub metOf : List ℕ → ℕ → Met
+metOf t w =
+    pickMet (eqb (kindOf w) 0) (Met.field (Field.I (firstOf w)))
+    (pickMet (eqb (kindOf w) 1) (Met.field (Field.F (firstOf w) (secondOf w)))
+    (pickMet (eqb (kindOf w) 2) (Met.field (Field.L (firstOf w)))
+    (pickMet (eqb (kindOf w) 3) (Met.field Field.A)
+    (pickMet (eqb (kindOf w) 4) (Met.field (Field.Aw (firstOf w)))
+    (pickMet (eqb (kindOf w) 5) (Met.X (firstOf w))
+    (pickMet (eqb (kindOf w) 6) (Met.T (firstOf w))
+    (pickMet (eqb (kindOf w) 7) Met.slash
+    (Met.literal (take (secondOf w) (drop (firstOf w) t))))))))))
+
+-- how far into the characters a word reaches: a literal up to its end, others not at all
+unfoldable pub reach : ℕ → ℕ
+reach w = cond (eqb (kindOf w) 8) (firstOf w + secondOf w) 0
+
+-- an entry, for an item with its repeat: a word and the repeat; a group's word has the number of entries inside as its first
+-- number, and they follow it
+abbrev pub entry : ℕ → ℕ → ℕ
+entry w r = w * 1024 + r
+
+abbrev pub wordOf : ℕ → ℕ
+wordOf e = e / 1024
+
+abbrev pub repeatOf : ℕ → ℕ
+repeatOf e = e % 1024
+
+abbrev pub groupKind : ℕ
+groupKind = 9
