@@ -1,2 +1,16 @@
 pub mod ItemLaws
 pub mod ReadLaws
+pub mod PartLaws
+pub mod NumberLaws
+pub mod LiteralLaws
+pub mod Complete
+pub mod Cases
+pub mod Reached
+pub mod LiteralSteps
+pub mod Steps
+pub mod Sound
+pub mod Ends
+pub mod Place
+pub mod RangeLaws
+pub mod MetLaws
+pub mod Promises

@@ -13,15 +13,25 @@ use lib.ListN.{length, getD, drop, drop-of-length-le}
 use lib.Seq.{drop-cons}
 use Rattle.number.specs.Digits.{isDigit}
 use Rattle.format_grammar.specs.Items.{Items}
-use Rattle.format_grammar.specs.Reading.{Use, Mode, Open, State, Reading, step, stepWithin, final, unlessDead, used, written, close, readFrom, readAt, reading}
+use Rattle.format_grammar.specs.Grammar.{At}
+use Rattle.format_grammar.specs.Reading.{Use, Mode, Open, State, Reading, step, stepWithin, final, unlessDead, used, written, close, readFrom, readAt}
 
 pub drop-one : (s : List ℕ) (at : ℕ) → at < length s → drop at s ≡ getD s at 0 ∷ drop (at + 1) s
 drop-one s at h = rw (add-one, drop-cons s at 0)
+
+-- one byte
+pub read-one : (s : List ℕ) (at : ℕ) (st : State) → at < length s → readAt s at st ≡ unlessDead (step at st (getD s at 0)) (Reading.wrong at) (readAt s (at + 1) (step at st (getD s at 0)))
+unfolding readAt readFrom
+read-one s at st h = rw (drop-one s at h)
 
 -- one byte on
 pub read-step : (s : List ℕ) (at : ℕ) (st to : State) → at < length s → step at st (getD s at 0) ≡ to → ((a b : Reading) → unlessDead to a b ≡ b) → readAt s at st ≡ readAt s (at + 1) to
 unfolding readAt readFrom
 read-step s at st to h e live = rw (drop-one s at h, e) (live _ _)
+
+-- one byte on, where it is known
+pub read-byte : {s : List ℕ} {at c : ℕ} (st to : State) → At s at c → step at st c ≡ to → ((a b : Reading) → unlessDead to a b ≡ b) → readAt s at st ≡ readAt s (at + 1) to
+read-byte {s} {at} st to h e live = read-step s at st to (h .within) (rw (h .is) e) live
 
 -- no byte can go on
 pub read-dead : (s : List ℕ) (at : ℕ) (st : State) → at < length s → step at st (getD s at 0) ≡ State.dead → readAt s at st ≡ Reading.wrong at

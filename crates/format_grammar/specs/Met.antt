@@ -57,10 +57,10 @@ fromLastGroup (Items.T n xs) = fromLastGroup xs
 fromLastGroup (Items.slash r xs) = fromLastGroup xs
 fromLastGroup (Items.literal cs xs) = fromLastGroup xs
 
--- the part that the walk returns to: 'with no such group, .. the whole format'
+-- the part that the walk returns to (the law `ReturnPartIs`): 'with no such group, .. the whole format'
 unfoldable pub returnPart : Items → Items
 returnPart xs = cond (hasGroup xs) (fromLastGroup xs) xs
 
--- where that part begins among the items met (the law `ReturnIs` of `Promises`)
+-- where that part begins among the items met (the law `ReturnIndexIs` of `Promises`)
 unfoldable pub returnIndex : Items → ℕ
 returnIndex xs = length (met xs) - length (met (returnPart xs))

@@ -1,5 +1,6 @@
 -- A format read a byte at a time: the items of a grammatical text, and of any other the place at which no byte can go on.
--- (The laws `ReadsExactly`, `OneReading` and `PlaceIs` of `Promises`: this reads exactly what the grammar relates.)
+-- (The laws `AcceptsExactly` and `GrammarRefused` of `Promises`: this reads exactly what the grammar relates, and the place
+-- is that of the longest beginning that some grammatical text shares.)
 -- Assumes nothing.
 use mathlib.Core.Bool.{Bool, true, false, _&&_, _||_, cond}
 use mathlib.Core.List.{List, [], _∷_, _++_}

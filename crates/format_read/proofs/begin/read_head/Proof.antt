@@ -1,0 +1,106 @@
+use borrow.Author.Needs.{needs}
+use Rattle.format_read.proofs.begin.read_head.Statement.{statement}
+use Rattle.format_read.proofs.begin.read_head.Tie as tie
+use Rattle.format_read.proofs.begin.read_head.Reads as reads
+use Rattle.format_read.proofs.begin.read_head.Lts as lts
+use Rattle.format_read.proofs.begin.is_mark.Reads as is-mark-reads
+use Rattle.format_read.proofs.begin.read_literal_item.Reads as read-literal-item-reads
+use Rattle.format_read.proofs.begin.read_single_item.Reads as read-single-item-reads
+use Rattle.format_read.proofs.digits.read_number.Reads as read-number-reads
+use Rattle.format_read.proofs.plain.outside_of.Reads as outside-of-reads
+use Rattle.format_read.proofs.plain.repeat_of.Reads as repeat-of-reads
+
+-- src/begin.rt:97:9
+read-number-requires : tie.Need-read-number-requires
+read-number-requires c κs = search needs
+
+-- src/begin.rt:101:9
+returns : tie.Need-returns
+returns c = ?
+
+-- src/begin.rt:103:13
+shared-slice-read-b : tie.Need-shared-slice-read-b
+shared-slice-read-b c = search needs
+
+-- src/begin.rt:106:13
+returns-2 : tie.Need-returns-2
+returns-2 c = ?
+
+-- src/begin.rt:108:13
+outside-of-requires : tie.Need-outside-of-requires
+outside-of-requires c κs = search needs
+
+-- src/begin.rt:111:21
+add-t17 : tie.Need-add-t17
+add-t17 c = search needs
+
+-- src/begin.rt:112:26
+add-t18 : tie.Need-add-t18
+add-t18 c = search needs
+
+-- src/begin.rt:116:21
+repeat-of-requires : tie.Need-repeat-of-requires
+repeat-of-requires c κs = search needs
+
+-- src/begin.rt:109:9
+returns-3 : tie.Need-returns-3
+returns-3 c = ?
+
+-- src/begin.rt:119:8
+is-mark-requires : tie.Need-is-mark-requires
+is-mark-requires c κs = search needs
+
+-- src/begin.rt:121:13
+returns-4 : tie.Need-returns-4
+returns-4 c = ?
+
+-- src/begin.rt:123:9
+read-literal-item-requires : tie.Need-read-literal-item-requires
+read-literal-item-requires c κs = ?
+
+-- src/begin.rt:123:9
+same-length : tie.Need-same-length
+same-length c = search needs
+
+-- src/begin.rt:123:9
+same-length-2 : tie.Need-same-length-2
+same-length-2 c = search needs
+
+-- src/begin.rt:123:9
+returns-5 : tie.Need-returns-5
+returns-5 c = ?
+
+-- src/begin.rt:125:5
+read-single-item-requires : tie.Need-read-single-item-requires
+read-single-item-requires c κs = ?
+
+-- src/begin.rt:86:1
+same-length-3 : tie.Need-same-length-3
+same-length-3 c = search needs
+
+-- src/begin.rt:86:1
+returns-6 : tie.Need-returns-6
+returns-6 c = ?
+
+pub read-head-spec : {M : Type 1} → statement M
+read-head-spec =
+    tie.close
+    (tie.spec
+    read-number-requires
+    returns
+    shared-slice-read-b
+    returns-2
+    outside-of-requires
+    add-t17
+    add-t18
+    repeat-of-requires
+    returns-3
+    is-mark-requires
+    returns-4
+    read-literal-item-requires
+    same-length
+    same-length-2
+    returns-5
+    read-single-item-requires
+    same-length-3
+    returns-6)

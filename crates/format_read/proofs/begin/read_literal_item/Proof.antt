@@ -1,0 +1,92 @@
+use borrow.Author.Needs.{needs}
+use Rattle.format_read.proofs.begin.read_literal_item.Statement.{statement}
+use Rattle.format_read.proofs.begin.read_literal_item.Tie as tie
+use Rattle.format_read.proofs.begin.read_literal_item.Reads as reads
+use Rattle.format_read.proofs.begin.read_literal_item.Lts as lts
+use Rattle.format_read.proofs.entry.put_entry.Reads as put-entry-reads
+use Rattle.format_read.proofs.text.read_literal.Reads as read-literal-reads
+
+-- src/begin.rt:38:30
+add-read-literal : tie.Need-add-read-literal
+add-read-literal c = search needs
+
+-- src/begin.rt:38:11
+read-literal-requires : tie.Need-read-literal-requires
+read-literal-requires c κs = search needs
+
+-- src/begin.rt:39:26
+enum-known-place : tie.Need-enum-known-place
+enum-known-place c = search needs
+
+-- src/begin.rt:40:25
+enum-known-next : tie.Need-enum-known-next
+enum-known-next c = search needs
+
+-- src/begin.rt:44:20
+sub-put-entry : tie.Need-sub-put-entry
+sub-put-entry c = ?
+
+-- src/begin.rt:44:18
+mul-put-entry : tie.Need-mul-put-entry
+mul-put-entry c = ?
+
+-- src/begin.rt:44:18
+add-put-entry : tie.Need-add-put-entry
+add-put-entry c = ?
+
+-- src/begin.rt:44:17
+mul-put-entry-2 : tie.Need-mul-put-entry-2
+mul-put-entry-2 c = ?
+
+-- src/begin.rt:44:17
+add-put-entry-2 : tie.Need-add-put-entry-2
+add-put-entry-2 c = ?
+
+-- src/begin.rt:41:13
+put-entry-requires : tie.Need-put-entry-requires
+put-entry-requires c κs = ?
+
+-- src/begin.rt:49:26
+add-t20 : tie.Need-add-t20
+add-t20 c = search needs
+
+-- src/begin.rt:30:1
+same-length : tie.Need-same-length
+same-length c = search needs
+
+-- src/begin.rt:30:1
+returns : tie.Need-returns
+returns c = ?
+
+-- src/begin.rt:30:1
+same-length-2 : tie.Need-same-length-2
+same-length-2 c = search needs
+
+-- src/begin.rt:30:1
+same-length-3 : tie.Need-same-length-3
+same-length-3 c = search needs
+
+-- src/begin.rt:30:1
+returns-2 : tie.Need-returns-2
+returns-2 c = ?
+
+pub read-literal-item-spec : {M : Type 1} → statement M
+read-literal-item-spec =
+    tie.close
+    (tie.spec
+    add-read-literal
+    read-literal-requires
+    enum-known-place
+    enum-known-next
+    sub-put-entry
+    mul-put-entry
+    add-put-entry
+    mul-put-entry-2
+    add-put-entry-2
+    put-entry-requires
+    add-t20
+    same-length
+    returns
+    same-length-2
+    same-length-3
+    returns-2)

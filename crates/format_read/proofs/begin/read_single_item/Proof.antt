@@ -1,0 +1,52 @@
+use borrow.Author.Needs.{needs}
+use Rattle.format_read.proofs.begin.read_single_item.Statement.{statement}
+use Rattle.format_read.proofs.begin.read_single_item.Tie as tie
+use Rattle.format_read.proofs.begin.read_single_item.Reads as reads
+use Rattle.format_read.proofs.begin.read_single_item.Lts as lts
+use Rattle.format_read.proofs.entry.put_entry.Reads as put-entry-reads
+use Rattle.format_read.proofs.plain.read_single.Reads as read-single-reads
+
+-- src/begin.rt:66:11
+read-single-requires : tie.Need-read-single-requires
+read-single-requires c κs = ?
+
+-- src/begin.rt:67:25
+enum-known-place : tie.Need-enum-known-place
+enum-known-place c = search needs
+
+-- src/begin.rt:69:13
+enum-known-word : tie.Need-enum-known-word
+enum-known-word c = search needs
+
+-- src/begin.rt:74:13
+put-entry-requires : tie.Need-put-entry-requires
+put-entry-requires c κs = ?
+
+-- src/begin.rt:77:26
+add-t18 : tie.Need-add-t18
+add-t18 c = ?
+
+-- src/begin.rt:58:1
+returns : tie.Need-returns
+returns c = ?
+
+-- src/begin.rt:58:1
+same-length : tie.Need-same-length
+same-length c = search needs
+
+-- src/begin.rt:58:1
+returns-2 : tie.Need-returns-2
+returns-2 c = ?
+
+pub read-single-item-spec : {M : Type 1} → statement M
+read-single-item-spec =
+    tie.close
+    (tie.spec
+    read-single-requires
+    enum-known-place
+    enum-known-word
+    put-entry-requires
+    add-t18
+    returns
+    same-length
+    returns-2)

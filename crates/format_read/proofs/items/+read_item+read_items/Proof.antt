@@ -1,0 +1,494 @@
+use Prim.Native.Nat.{ℕ, _<_}
+use borrow.Fn.Kinds.{In}
+use borrow.Fn.PlainCycle.{Measures, is, falls, and}
+use Rattle.format_read.proofs.items.read_item.Reads as read-item
+use Rattle.format_read.proofs.items.read_item.Kinds as read-item-kinds
+use Rattle.format_read.proofs.items.+read_item+read_items.Lts-read_item as read-item-lts
+use Rattle.format_read.proofs.items.read_items.Reads as read-items
+use Rattle.format_read.proofs.items.read_items.Kinds as read-items-kinds
+use Rattle.format_read.proofs.items.+read_item+read_items.Lts-read_items as read-items-lts
+use Rattle.format_read.proofs.begin.read_head.Reads as read-head-reads
+use Rattle.format_read.proofs.items.put_group.Reads as put-group-reads
+use Rattle.format_read.proofs.items.+read_item+read_items.{statement}
+use Rattle.format_read.proofs.items.+read_item+read_items.Tie.{close}
+
+abbrev μ-read-item : Measures 3 read-item-kinds.ps ℕ
+μ-read-item κs a = ?
+
+abbrev μ-read-items : Measures 3 read-items-kinds.ps ℕ
+μ-read-items κs a = ?
+
+abbrev read-item-at : ℕ → In 3 read-item-kinds.ps
+read-item-at t = and 3 read-item-kinds.ps (is 3 read-item-kinds.ps μ-read-item t) read-item.Pre
+
+abbrev read-item-below : ℕ → In 3 read-item-kinds.ps
+read-item-below t =
+    and 3 read-item-kinds.ps (falls 3 read-item-kinds.ps _<_ μ-read-item t) read-item.Pre
+
+abbrev read-items-at : ℕ → In 3 read-items-kinds.ps
+read-items-at t =
+    and 3 read-items-kinds.ps (is 3 read-items-kinds.ps μ-read-items t) read-items.Pre
+
+abbrev read-items-below : ℕ → In 3 read-items-kinds.ps
+read-items-below t =
+    and 3 read-items-kinds.ps (falls 3 read-items-kinds.ps _<_ μ-read-items t) read-items.Pre
+
+-- src/items.rt:35:11
+read-item-read-head-requires : (t : ℕ) → read-item-lts.Need-read-head-requires (
+  read-head-reads.Asked,
+  read-head-reads.Learnt,
+  read-items-below t,
+  read-items.Post,
+  put-group-reads.Asked,
+  put-group-reads.Learnt,
+) (read-item-at t) read-item.Post
+read-item-read-head-requires t c κs = ?
+
+-- src/items.rt:36:23
+read-item-enum-known-place : (t : ℕ) → read-item-lts.Need-enum-known-place (
+  read-head-reads.Asked,
+  read-head-reads.Learnt,
+  read-items-below t,
+  read-items.Post,
+  put-group-reads.Asked,
+  put-group-reads.Learnt,
+) (read-item-at t) read-item.Post
+read-item-enum-known-place t c = ?
+
+-- src/items.rt:37:21
+read-item-enum-known-after : (t : ℕ) → read-item-lts.Need-enum-known-after (
+  read-head-reads.Asked,
+  read-head-reads.Learnt,
+  read-items-below t,
+  read-items.Post,
+  put-group-reads.Asked,
+  put-group-reads.Learnt,
+) (read-item-at t) read-item.Post
+read-item-enum-known-after t c = ?
+
+-- src/items.rt:38:23
+read-item-enum-known-inside : (t : ℕ) → read-item-lts.Need-enum-known-inside (
+  read-head-reads.Asked,
+  read-head-reads.Learnt,
+  read-items-below t,
+  read-items.Post,
+  put-group-reads.Asked,
+  put-group-reads.Learnt,
+) (read-item-at t) read-item.Post
+read-item-enum-known-inside t c = ?
+
+-- src/items.rt:41:13
+read-item-sub-read-items : (t : ℕ) → read-item-lts.Need-sub-read-items (
+  read-head-reads.Asked,
+  read-head-reads.Learnt,
+  read-items-below t,
+  read-items.Post,
+  put-group-reads.Asked,
+  put-group-reads.Learnt,
+) (read-item-at t) read-item.Post
+read-item-sub-read-items t c = ?
+
+-- src/items.rt:38:49
+read-item-read-items-requires : (t : ℕ) → read-item-lts.Need-read-items-requires (
+  read-head-reads.Asked,
+  read-head-reads.Learnt,
+  read-items-below t,
+  read-items.Post,
+  put-group-reads.Asked,
+  put-group-reads.Learnt,
+) (read-item-at t) read-item.Post
+read-item-read-items-requires t c κs = ?
+
+-- src/items.rt:45:29
+read-item-enum-known-place-2 : (t : ℕ) → read-item-lts.Need-enum-known-place-2 (
+  read-head-reads.Asked,
+  read-head-reads.Learnt,
+  read-items-below t,
+  read-items.Post,
+  put-group-reads.Asked,
+  put-group-reads.Learnt,
+) (read-item-at t) read-item.Post
+read-item-enum-known-place-2 t c = ?
+
+-- src/items.rt:46:26
+read-item-enum-known-after-2 : (t : ℕ) → read-item-lts.Need-enum-known-after-2 (
+  read-head-reads.Asked,
+  read-head-reads.Learnt,
+  read-items-below t,
+  read-items.Post,
+  put-group-reads.Asked,
+  put-group-reads.Learnt,
+) (read-item-at t) read-item.Post
+read-item-enum-known-after-2 t c = ?
+
+-- src/items.rt:47:17
+read-item-put-group-requires : (t : ℕ) → read-item-lts.Need-put-group-requires (
+  read-head-reads.Asked,
+  read-head-reads.Learnt,
+  read-items-below t,
+  read-items.Post,
+  put-group-reads.Asked,
+  put-group-reads.Learnt,
+) (read-item-at t) read-item.Post
+read-item-put-group-requires t c κs = ?
+
+-- src/items.rt:24:1
+read-item-same-length : (t : ℕ) → read-item-lts.Need-same-length (
+  read-head-reads.Asked,
+  read-head-reads.Learnt,
+  read-items-below t,
+  read-items.Post,
+  put-group-reads.Asked,
+  put-group-reads.Learnt,
+) (read-item-at t) read-item.Post
+read-item-same-length t c = ?
+
+-- src/items.rt:24:1
+read-item-same-length-2 : (t : ℕ) → read-item-lts.Need-same-length-2 (
+  read-head-reads.Asked,
+  read-head-reads.Learnt,
+  read-items-below t,
+  read-items.Post,
+  put-group-reads.Asked,
+  put-group-reads.Learnt,
+) (read-item-at t) read-item.Post
+read-item-same-length-2 t c = ?
+
+-- src/items.rt:24:1
+read-item-returns : (t : ℕ) → read-item-lts.Need-returns (
+  read-head-reads.Asked,
+  read-head-reads.Learnt,
+  read-items-below t,
+  read-items.Post,
+  put-group-reads.Asked,
+  put-group-reads.Learnt,
+) (read-item-at t) read-item.Post
+read-item-returns t c = ?
+
+-- src/items.rt:24:1
+read-item-same-length-3 : (t : ℕ) → read-item-lts.Need-same-length-3 (
+  read-head-reads.Asked,
+  read-head-reads.Learnt,
+  read-items-below t,
+  read-items.Post,
+  put-group-reads.Asked,
+  put-group-reads.Learnt,
+) (read-item-at t) read-item.Post
+read-item-same-length-3 t c = ?
+
+-- src/items.rt:24:1
+read-item-same-length-4 : (t : ℕ) → read-item-lts.Need-same-length-4 (
+  read-head-reads.Asked,
+  read-head-reads.Learnt,
+  read-items-below t,
+  read-items.Post,
+  put-group-reads.Asked,
+  put-group-reads.Learnt,
+) (read-item-at t) read-item.Post
+read-item-same-length-4 t c = ?
+
+-- src/items.rt:24:1
+read-item-returns-2 : (t : ℕ) → read-item-lts.Need-returns-2 (
+  read-head-reads.Asked,
+  read-head-reads.Learnt,
+  read-items-below t,
+  read-items.Post,
+  put-group-reads.Asked,
+  put-group-reads.Learnt,
+) (read-item-at t) read-item.Post
+read-item-returns-2 t c = ?
+
+-- src/items.rt:24:1
+read-item-same-length-5 : (t : ℕ) → read-item-lts.Need-same-length-5 (
+  read-head-reads.Asked,
+  read-head-reads.Learnt,
+  read-items-below t,
+  read-items.Post,
+  put-group-reads.Asked,
+  put-group-reads.Learnt,
+) (read-item-at t) read-item.Post
+read-item-same-length-5 t c = ?
+
+-- src/items.rt:24:1
+read-item-same-length-6 : (t : ℕ) → read-item-lts.Need-same-length-6 (
+  read-head-reads.Asked,
+  read-head-reads.Learnt,
+  read-items-below t,
+  read-items.Post,
+  put-group-reads.Asked,
+  put-group-reads.Learnt,
+) (read-item-at t) read-item.Post
+read-item-same-length-6 t c = ?
+
+-- src/items.rt:24:1
+read-item-returns-3 : (t : ℕ) → read-item-lts.Need-returns-3 (
+  read-head-reads.Asked,
+  read-head-reads.Learnt,
+  read-items-below t,
+  read-items.Post,
+  put-group-reads.Asked,
+  put-group-reads.Learnt,
+) (read-item-at t) read-item.Post
+read-item-returns-3 t c = ?
+
+-- src/items.rt:24:1
+read-item-same-length-7 : (t : ℕ) → read-item-lts.Need-same-length-7 (
+  read-head-reads.Asked,
+  read-head-reads.Learnt,
+  read-items-below t,
+  read-items.Post,
+  put-group-reads.Asked,
+  put-group-reads.Learnt,
+) (read-item-at t) read-item.Post
+read-item-same-length-7 t c = ?
+
+-- src/items.rt:24:1
+read-item-same-length-8 : (t : ℕ) → read-item-lts.Need-same-length-8 (
+  read-head-reads.Asked,
+  read-head-reads.Learnt,
+  read-items-below t,
+  read-items.Post,
+  put-group-reads.Asked,
+  put-group-reads.Learnt,
+) (read-item-at t) read-item.Post
+read-item-same-length-8 t c = ?
+
+-- src/items.rt:24:1
+read-item-returns-4 : (t : ℕ) → read-item-lts.Need-returns-4 (
+  read-head-reads.Asked,
+  read-head-reads.Learnt,
+  read-items-below t,
+  read-items.Post,
+  put-group-reads.Asked,
+  put-group-reads.Learnt,
+) (read-item-at t) read-item.Post
+read-item-returns-4 t c = ?
+
+abbrev read-items-Inv-loop : read-items-lts.InvT-loop
+read-items-Inv-loop text level entries₀ chars₀ p₀ entries chars p = ?
+
+abbrev read-items-μ-loop : read-items-lts.MeasureT-loop
+read-items-μ-loop text level entries₀ chars₀ p₀ entries chars p = ?
+
+-- src/items.rt:66:5
+read-items-loop-holds : (t : ℕ) → read-items-lts.Need-loop-holds (
+  read-item-below t,
+  read-item.Post,
+) (read-items-at t) read-items.Post read-items-Inv-loop read-items-μ-loop
+read-items-loop-holds t c = ?
+
+-- src/items.rt:67:15
+read-items-read-item-requires : (t : ℕ) → read-items-lts.Need-read-item-requires (
+  read-item-below t,
+  read-item.Post,
+) (read-items-at t) read-items.Post read-items-Inv-loop read-items-μ-loop
+read-items-read-item-requires t c κs = ?
+
+-- src/items.rt:68:29
+read-items-enum-known-place : (t : ℕ) → read-items-lts.Need-enum-known-place (
+  read-item-below t,
+  read-item.Post,
+) (read-items-at t) read-items.Post read-items-Inv-loop read-items-μ-loop
+read-items-enum-known-place t c = ?
+
+-- src/items.rt:68:40
+read-items-same-length : (t : ℕ) → read-items-lts.Need-same-length (
+  read-item-below t,
+  read-item.Post,
+) (read-items-at t) read-items.Post read-items-Inv-loop read-items-μ-loop
+read-items-same-length t c = ?
+
+-- src/items.rt:68:40
+read-items-same-length-2 : (t : ℕ) → read-items-lts.Need-same-length-2 (
+  read-item-below t,
+  read-item.Post,
+) (read-items-at t) read-items.Post read-items-Inv-loop read-items-μ-loop
+read-items-same-length-2 t c = ?
+
+-- src/items.rt:68:40
+read-items-returns :
+    (t : ℕ) →
+    read-items-lts.Need-returns
+    (read-item-below t, read-item.Post)
+    (read-items-at t)
+    read-items.Post
+    read-items-Inv-loop
+    read-items-μ-loop
+read-items-returns t c = ?
+
+-- src/items.rt:69:26
+read-items-enum-known-after : (t : ℕ) → read-items-lts.Need-enum-known-after (
+  read-item-below t,
+  read-item.Post,
+) (read-items-at t) read-items.Post read-items-Inv-loop read-items-μ-loop
+read-items-enum-known-after t c = ?
+
+-- src/items.rt:72:21
+read-items-same-length-3 : (t : ℕ) → read-items-lts.Need-same-length-3 (
+  read-item-below t,
+  read-item.Post,
+) (read-items-at t) read-items.Post read-items-Inv-loop read-items-μ-loop
+read-items-same-length-3 t c = ?
+
+-- src/items.rt:72:21
+read-items-same-length-4 : (t : ℕ) → read-items-lts.Need-same-length-4 (
+  read-item-below t,
+  read-item.Post,
+) (read-items-at t) read-items.Post read-items-Inv-loop read-items-μ-loop
+read-items-same-length-4 t c = ?
+
+-- src/items.rt:72:21
+read-items-returns-2 :
+    (t : ℕ) →
+    read-items-lts.Need-returns-2
+    (read-item-below t, read-item.Post)
+    (read-items-at t)
+    read-items.Post
+    read-items-Inv-loop
+    read-items-μ-loop
+read-items-returns-2 t c = ?
+
+-- src/items.rt:74:25
+read-items-shared-slice-read-b : (t : ℕ) → read-items-lts.Need-shared-slice-read-b (
+  read-item-below t,
+  read-item.Post,
+) (read-items-at t) read-items.Post read-items-Inv-loop read-items-μ-loop
+read-items-shared-slice-read-b t c = ?
+
+-- src/items.rt:76:25
+read-items-add-t17 :
+    (t : ℕ) →
+    read-items-lts.Need-add-t17
+    (read-item-below t, read-item.Post)
+    (read-items-at t)
+    read-items.Post
+    read-items-Inv-loop
+    read-items-μ-loop
+read-items-add-t17 t c = ?
+
+-- src/items.rt:82:21
+read-items-same-length-5 : (t : ℕ) → read-items-lts.Need-same-length-5 (
+  read-item-below t,
+  read-item.Post,
+) (read-items-at t) read-items.Post read-items-Inv-loop read-items-μ-loop
+read-items-same-length-5 t c = ?
+
+-- src/items.rt:82:21
+read-items-same-length-6 : (t : ℕ) → read-items-lts.Need-same-length-6 (
+  read-item-below t,
+  read-item.Post,
+) (read-items-at t) read-items.Post read-items-Inv-loop read-items-μ-loop
+read-items-same-length-6 t c = ?
+
+-- src/items.rt:82:21
+read-items-returns-3 :
+    (t : ℕ) →
+    read-items-lts.Need-returns-3
+    (read-item-below t, read-item.Post)
+    (read-items-at t)
+    read-items.Post
+    read-items-Inv-loop
+    read-items-μ-loop
+read-items-returns-3 t c = ?
+
+-- src/items.rt:85:21
+read-items-same-length-7 : (t : ℕ) → read-items-lts.Need-same-length-7 (
+  read-item-below t,
+  read-item.Post,
+) (read-items-at t) read-items.Post read-items-Inv-loop read-items-μ-loop
+read-items-same-length-7 t c = ?
+
+-- src/items.rt:85:21
+read-items-same-length-8 : (t : ℕ) → read-items-lts.Need-same-length-8 (
+  read-item-below t,
+  read-item.Post,
+) (read-items-at t) read-items.Post read-items-Inv-loop read-items-μ-loop
+read-items-same-length-8 t c = ?
+
+-- src/items.rt:85:21
+read-items-returns-4 :
+    (t : ℕ) →
+    read-items-lts.Need-returns-4
+    (read-item-below t, read-item.Post)
+    (read-items-at t)
+    read-items.Post
+    read-items-Inv-loop
+    read-items-μ-loop
+read-items-returns-4 t c = ?
+
+-- src/items.rt:66:5
+read-items-loop-less :
+    (t : ℕ) →
+    read-items-lts.Need-loop-less
+    (read-item-below t, read-item.Post)
+    (read-items-at t)
+    read-items.Post
+    read-items-Inv-loop
+    read-items-μ-loop
+read-items-loop-less t c = ?
+
+-- src/items.rt:66:5
+read-items-loop-again : (t : ℕ) → read-items-lts.Need-loop-again (
+  read-item-below t,
+  read-item.Post,
+) (read-items-at t) read-items.Post read-items-Inv-loop read-items-μ-loop
+read-items-loop-again t c = ?
+
+pub +read-item+read-items-spec : {M : Type 1} → statement M
++read-item+read-items-spec = close μ-read-item μ-read-items (λ t. read-item-lts.spec (
+  read-head-reads.Asked,
+  read-head-reads.Learnt,
+  read-items-below t,
+  read-items.Post,
+  put-group-reads.Asked,
+  put-group-reads.Learnt,
+)
+    (read-item-at t)
+    read-item.Post
+    (read-item-read-head-requires t)
+    (read-item-enum-known-place t)
+    (read-item-enum-known-after t)
+    (read-item-enum-known-inside t)
+    (read-item-sub-read-items t)
+    (read-item-read-items-requires t)
+    (read-item-enum-known-place-2 t)
+    (read-item-enum-known-after-2 t)
+    (read-item-put-group-requires t)
+    (read-item-same-length t)
+    (read-item-same-length-2 t)
+    (read-item-returns t)
+    (read-item-same-length-3 t)
+    (read-item-same-length-4 t)
+    (read-item-returns-2 t)
+    (read-item-same-length-5 t)
+    (read-item-same-length-6 t)
+    (read-item-returns-3 t)
+    (read-item-same-length-7 t)
+    (read-item-same-length-8 t)
+    (read-item-returns-4 t))
+    λ t. read-items-lts.spec
+    (read-item-below t, read-item.Post)
+    (read-items-at t)
+    read-items.Post
+    read-items-Inv-loop
+    read-items-μ-loop
+    (read-items-loop-holds t)
+    (read-items-read-item-requires t)
+    (read-items-enum-known-place t)
+    (read-items-same-length t)
+    (read-items-same-length-2 t)
+    (read-items-returns t)
+    (read-items-enum-known-after t)
+    (read-items-same-length-3 t)
+    (read-items-same-length-4 t)
+    (read-items-returns-2 t)
+    (read-items-shared-slice-read-b t)
+    (read-items-add-t17 t)
+    (read-items-same-length-5 t)
+    (read-items-same-length-6 t)
+    (read-items-returns-3 t)
+    (read-items-same-length-7 t)
+    (read-items-same-length-8 t)
+    (read-items-returns-4 t)
+    (read-items-loop-less t)
+    (read-items-loop-again t)

@@ -1,0 +1,150 @@
+use borrow.Author.Needs.{needs}
+use Rattle.format_read.proofs.plain.read_single.Statement.{statement}
+use Rattle.format_read.proofs.plain.read_single.Tie as tie
+use Rattle.format_read.proofs.plain.read_single.Reads as reads
+use Rattle.format_read.proofs.plain.read_single.Lts as lts
+use Rattle.format_read.proofs.plain.outside_of.Reads as outside-of-reads
+use Rattle.format_read.proofs.plain.read_decimal.Reads as read-decimal-reads
+use Rattle.format_read.proofs.plain.read_one.Reads as read-one-reads
+use Rattle.format_read.proofs.plain.read_text.Reads as read-text-reads
+use Rattle.format_read.proofs.plain.repeat_of.Reads as repeat-of-reads
+
+-- src/plain.rt:123:13
+shared-slice-read-b : tie.Need-shared-slice-read-b
+shared-slice-read-b c = search needs
+
+-- src/plain.rt:124:9
+repeat-of-requires : tie.Need-repeat-of-requires
+repeat-of-requires c κs = search needs
+
+-- src/plain.rt:125:9
+outside-of-requires : tie.Need-outside-of-requires
+outside-of-requires c κs = search needs
+
+-- src/plain.rt:127:31
+add-read-one : tie.Need-add-read-one
+add-read-one c = search needs
+
+-- src/plain.rt:127:9
+read-one-requires : tie.Need-read-one-requires
+read-one-requires c κs = search needs
+
+-- src/plain.rt:127:9
+returns : tie.Need-returns
+returns c = ?
+
+-- src/plain.rt:130:35
+add-read-decimal : tie.Need-add-read-decimal
+add-read-decimal c = search needs
+
+-- src/plain.rt:130:9
+read-decimal-requires : tie.Need-read-decimal-requires
+read-decimal-requires c κs = search needs
+
+-- src/plain.rt:130:9
+returns-2 : tie.Need-returns-2
+returns-2 c = ?
+
+-- src/plain.rt:133:31
+add-read-one-2 : tie.Need-add-read-one-2
+add-read-one-2 c = search needs
+
+-- src/plain.rt:133:9
+read-one-requires-2 : tie.Need-read-one-requires-2
+read-one-requires-2 c κs = search needs
+
+-- src/plain.rt:133:9
+returns-3 : tie.Need-returns-3
+returns-3 c = ?
+
+-- src/plain.rt:136:32
+add-read-text : tie.Need-add-read-text
+add-read-text c = search needs
+
+-- src/plain.rt:136:9
+read-text-requires : tie.Need-read-text-requires
+read-text-requires c κs = search needs
+
+-- src/plain.rt:136:9
+returns-4 : tie.Need-returns-4
+returns-4 c = ?
+
+-- src/plain.rt:140:13
+returns-5 : tie.Need-returns-5
+returns-5 c = ?
+
+-- src/plain.rt:142:31
+add-read-one-3 : tie.Need-add-read-one-3
+add-read-one-3 c = search needs
+
+-- src/plain.rt:142:9
+read-one-requires-3 : tie.Need-read-one-requires-3
+read-one-requires-3 c κs = search needs
+
+-- src/plain.rt:142:9
+returns-6 : tie.Need-returns-6
+returns-6 c = ?
+
+-- src/plain.rt:146:13
+returns-7 : tie.Need-returns-7
+returns-7 c = ?
+
+-- src/plain.rt:149:19
+mul-t19 : tie.Need-mul-t19
+mul-t19 c = search needs
+
+-- src/plain.rt:149:19
+add-t20 : tie.Need-add-t20
+add-t20 c = search needs
+
+-- src/plain.rt:151:19
+add-t21 : tie.Need-add-t21
+add-t21 c = search needs
+
+-- src/plain.rt:148:9
+returns-8 : tie.Need-returns-8
+returns-8 c = ?
+
+-- src/plain.rt:159:19
+add-t22 : tie.Need-add-t22
+add-t22 c = search needs
+
+-- src/plain.rt:156:9
+returns-9 : tie.Need-returns-9
+returns-9 c = ?
+
+-- src/plain.rt:118:1
+returns-10 : tie.Need-returns-10
+returns-10 c = ?
+
+pub read-single-spec : {M : Type 1} → statement M
+read-single-spec =
+    tie.close
+    (tie.spec
+    shared-slice-read-b
+    repeat-of-requires
+    outside-of-requires
+    add-read-one
+    read-one-requires
+    returns
+    add-read-decimal
+    read-decimal-requires
+    returns-2
+    add-read-one-2
+    read-one-requires-2
+    returns-3
+    add-read-text
+    read-text-requires
+    returns-4
+    returns-5
+    add-read-one-3
+    read-one-requires-3
+    returns-6
+    returns-7
+    mul-t19
+    add-t20
+    add-t21
+    returns-8
+    add-t22
+    returns-9
+    returns-10)

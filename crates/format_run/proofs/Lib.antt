@@ -1,0 +1,7 @@
+pub mod MetLaws
+pub mod Views
+pub mod Adding
+pub mod Repeating
+pub mod RunLaws
+pub mod Backs
+pub mod Unrolling

@@ -1,0 +1,41 @@
+// The size of items.
+use format_words::KIND_GROUP;
+ghost use mathlib.Core.Path.{_≡_};
+ghost use mathlib.Core.List.{List};
+ghost use Prim.Native.Nat.{ℕ, _≤_};
+ghost use Rattle.format_grammar.specs.Items.{Items};
+ghost use Rattle.format_grammar.specs.Size.{size};
+ghost use Rattle.format_words.specs.Held.{Holds, Held};
+ghost use Rattle.format_run.specs.Sizes.{capped};
+
+// A size as far as it matters: over 4,096 it counts as 4,097.
+fn capped(n: u64) -> u64
+    ensures { λ r. ⌜ r ≡ capped n ⌝ }
+{
+    if n < 4097 { n } else { 4097 }
+}
+
+// The size of the items that the entries from `from` up to `to` hold, by recursion over nested groups.
+pub fn size_of(entries: &[u64], from: usize, to: usize, level: usize) -> u64
+    requires { ⌜ Held (now entries) level from to ⌝ }
+    ensures sized { λ r. ⌜ ((t : List ℕ) (c : ℕ) (xs : Items) → Holds (now (entries .entry)) t c level from xs to → r ≡ capped (size xs)) ⌝ }
+    ensures bounded { λ r. ⌜ r ≤ 4097 ⌝ }
+{
+    let mut total: u64 = 0;
+    let mut i = from;
+    while i < to {
+        let e = entries[i];
+        let w = e / 1024;
+        let r = e % 1024;
+        if w % 16 == KIND_GROUP {
+            let mid = i + 1 + (w / 16 % 1024) as usize;
+            let inside = size_of(entries, i + 1, mid, level - 1);
+            total = capped(total + r * inside);
+            i = mid;
+        } else {
+            total = capped(total + r);
+            i += 1;
+        }
+    }
+    total
+}

@@ -1,0 +1,88 @@
+-- Entries that hold items: after one another, and kept when others are written.
+-- Assumes nothing.
+use mathlib.Core.Path.{_≡_, refl, sym, ap, _∙_, subst}
+use mathlib.Core.Bool.{Bool, true, false}
+use mathlib.Core.List.{List, [], _∷_}
+use Prim.Native.Nat.{ℕ, zero, suc, _+_, _<_, _≤_}
+use native.Mathlib.Nat.{zero-add, suc-add}
+use native.Mathlib.Omega.{arith}
+use native.Mathlib.Decide.{ℕ-discrete}
+use borrow.Author.Tests.{eq-eqb, eqb-false}
+use lib.Dec.{eqb}
+use lib.ListN.{length, getD, take, drop}
+use lib.Seq.{take-take, take-nil, drop-nil}
+use Rattle.format_grammar.specs.Items.{times, Items, join}
+use Rattle.format_grammar.specs.Met.{Met}
+use Rattle.format_words.specs.Words.{pickMet, kindOf, firstOf, secondOf, wordOf, metOf, reach}
+use Rattle.format_words.specs.Held.{First, Single, GroupEntry, Holds}
+
+pub holds-le : {a t : List ℕ} {c l n m : ℕ} {xs : Items} → Holds a t c l n xs m → n ≤ m
+holds-le Holds.none = omega arith
+holds-le (Holds.single f i s h) = omega (arith, holds-le h)
+holds-le (Holds.group i g h k) = omega (arith, holds-le h, holds-le k)
+
+-- ---- one after the other
+
+pub first-join : {xs next : Items} {r : ℕ} {k : Met} (ys : Items) → First xs r k next → First (join xs ys) r k (join next ys)
+unfolding join
+first-join ys First.field = First.field
+first-join ys First.X = First.X
+first-join ys First.T = First.T
+first-join ys First.slash = First.slash
+first-join ys First.literal = First.literal
+
+pub holds-join : {a t : List ℕ} {c l n m p : ℕ} {xs ys : Items} → Holds a t c l n xs m → Holds a t c l m ys p → Holds a t c l n (join xs ys) p
+unfolding join
+holds-join Holds.none k = k
+holds-join {ys} (Holds.single f i s h) k = Holds.single (first-join ys f) i s (holds-join h k)
+holds-join (Holds.group i g h j) k = Holds.group i g h (holds-join j k)
+
+-- ---- kept
+
+drop-take : (a b : ℕ) (s : List ℕ) → drop a (take (a + b) s) ≡ take b (drop a s)
+drop-take zero b s = rw (zero-add b)
+drop-take (suc a) b [] = rw (take-nil {A = ℕ} (suc a + b), take-nil {A = ℕ} b)
+drop-take (suc a) b (x ∷ s) = rw (suc-add a b) (drop-take a b s)
+
+-- the same characters up to c
+pub slice-kept : (a b c : ℕ) (t u : List ℕ) → a + b ≤ c → take c u ≡ take c t → take b (drop a u) ≡ take b (drop a t)
+slice-kept a b c t u h e =
+    sym (drop-take a b u)
+    ∙ ap (drop a) (sym (take-take (a + b) c u h) ∙ ap (take (a + b)) e ∙ take-take (a + b) c t h)
+    ∙ drop-take a b t
+
+picks : (b : Bool) (a x y : Met) → (b ≡ false → x ≡ y) → pickMet b a x ≡ pickMet b a y
+picks true a x y f = refl
+picks false a x y f = f refl
+
+pub met-kept : (w c : ℕ) (t u : List ℕ) → kindOf w < 9 → reach w ≤ c → take c u ≡ take c t → metOf u w ≡ metOf t w
+unfolding metOf reach
+met-kept w c t u low h e = go (ℕ-discrete (kindOf w) 8)
+  where
+    less : (n : ℕ) → eqb (kindOf w) n ≡ false → kindOf w < n + 1 → kindOf w < n
+    less n f g = omega (arith, eqb-false (kindOf w) n f)
+
+    go : Dec (kindOf w ≡ 8) → metOf u w ≡ metOf t w
+    go (yes z) = rw (slice-kept (firstOf w) (secondOf w) c t u (rw (eq-eqb (kindOf w) 8 z) at h) e)
+    go (no z) =
+        let top : kindOf w < 8 = omega arith in
+        picks _ _ _ _ (λ e0. picks _ _ _ _ (λ e1. picks _ _ _ _ (λ e2. picks _ _ _ _ (λ e3. picks _ _ _ _ (λ e4. picks _ _ _ _ (λ e5. picks _ _ _ _ (λ e6. picks _ _ _ _ (λ e7.
+        let none : kindOf w < 0 = less 0 e0 (less 1 e1 (less 2 e2 (less 3 e3 (less 4 e4 (less 5 e5 (less 6 e6 (less 7 e7 top))))))) in
+        absurd (omega arith)))))))))
+
+pub single-kept : {t u : List ℕ} {c d e r : ℕ} {k : Met} → Single t c e r k → take c u ≡ take c t → c ≤ d → Single u d e r k
+single-kept {t} {u} {c} {d} {e} s q h =
+    record { kind = s .kind; is = met-kept (wordOf e) c t u (s .kind) (s .reaches) q ∙ s .is; repeats = s .repeats; reaches = omega (arith, s .reaches) }
+
+-- other entries and further characters may change
+pub holds-kept : {a b t u : List ℕ} {c d l n m : ℕ} {xs : Items} → Holds a t c l n xs m → length a ≡ length b → ((i : ℕ) → n ≤ i → i < m → getD b i 0 ≡ getD a i 0)
+    → take c u ≡ take c t → c ≤ d → Holds b u d l n xs m
+holds-kept Holds.none len same q h = Holds.none
+holds-kept {a} {b} {u} {d} {n} {m} (Holds.single {r} {k} f i s rest) len same q h =
+    let e = same n (omega arith) (omega (arith, holds-le rest)) in
+    Holds.single {n = n} f (omega arith) (subst (λ (x : ℕ). Single u d x r k) (sym e) (single-kept s q h)) (holds-kept rest len (λ j lo hi. same j (omega arith) hi) q h)
+holds-kept {a} {b} {n} {m} (Holds.group {mid} {r} i g inside rest) len same q h =
+    let e = same n (omega arith) (omega (arith, holds-le inside, holds-le rest)) in
+    Holds.group {n = n} (omega arith) (subst (λ (x : ℕ). GroupEntry x (times r) n mid) (sym e) g)
+    (holds-kept inside len (λ j lo hi. same j (omega arith) (omega (arith, holds-le rest))) q h)
+    (holds-kept rest len (λ j lo hi. same j (omega (arith, holds-le inside)) hi) q h)
