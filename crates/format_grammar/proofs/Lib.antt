@@ -12,5 +12,6 @@ pub mod Sound
 pub mod Ends
 pub mod Place
 pub mod RangeLaws
+pub mod NumberOrder
 pub mod MetLaws
 pub mod Promises

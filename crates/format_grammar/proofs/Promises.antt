@@ -15,15 +15,19 @@ use Rattle.format_grammar.specs.Size.{size, largestSize}
 use Rattle.format_grammar.specs.Reading.{Reading, items, wrong, reading}
 use Rattle.format_grammar.specs.Check.{longestFormat, Outcome, accepted, refused, checkSize, checkRange, checkGrammar, outcome}
 use Rattle.format_grammar.specs.declared.FormatRefusal.the-variants.{Length, Grammar, Range, Size}
-use Rattle.format_grammar.specs.Promises.{Acceptable, NotGrammatical, OutOfRange, TooLarge, AllWithin, AcceptsExactly, OneReading, LengthRefused, GrammarRefused, RangeRefused, SizeRefused, MetIsSize, ReturnPartIs, ReturnIndexIs}
+use Rattle.format_grammar.specs.Promises.{Acceptable, NotGrammatical, OutOfRange, TooLarge, AllWithin, AcceptsExactly, OneReading, LengthRefused, GrammarRefused, RangeRefused, SizeRefused, NumbersInOrder, MetIsSize, ReturnPartIs, ReturnIndexIs}
 use Rattle.format_grammar.proofs.Complete.{complete}
 use Rattle.format_grammar.proofs.Sound.{sound}
 use Rattle.format_grammar.proofs.Place.{place-is, one-place}
 use Rattle.format_grammar.proofs.RangeLaws.{all-nowhere, nowhere-all, at-first, first-at}
+use Rattle.format_grammar.proofs.NumberOrder
 use Rattle.format_grammar.proofs.MetLaws
 
 pub one-reading : OneReading
 one-reading s xs ys f g = let a = complete f in let b = complete g in cc
+
+pub numbers-in-order : NumbersInOrder
+numbers-in-order = NumberOrder.numbers-in-order
 
 pub met-is-size : MetIsSize
 met-is-size = MetLaws.met-is-size

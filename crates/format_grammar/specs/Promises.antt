@@ -6,8 +6,8 @@ use mathlib.Core.Bool.{false}
 use mathlib.Core.List.{List, [], _∷_, _++_}
 use Prim.Native.Nat.{ℕ, _<_, _≤_}
 use lib.ListN.{length, drop}
-use Rattle.format_grammar.specs.Items.{valueOf, Repeat, Items, join}
-use Rattle.format_grammar.specs.Grammar.{Format, LongestShared}
+use Rattle.format_grammar.specs.Items.{Number, valueOf, Repeat, Items, join}
+use Rattle.format_grammar.specs.Grammar.{NumberAt, Format, LongestShared}
 use Rattle.format_grammar.specs.Ranges.{Ranged, ranged, place, numbers}
 use Rattle.format_grammar.specs.Size.{size, largestSize}
 use Rattle.format_grammar.specs.Met.{met, hasGroup, returnPart, returnIndex}
@@ -32,6 +32,16 @@ pub record FirstOut (ns : List Ranged) (p : ℕ) : Type 0 where
   pub fine : AllWithin before
   pub out : Within n → ⊥
   pub stands : place n ≡ p
+
+-- the numbers stand in the text s one after another, between the offsets a and b
+pub data InOrder (s : List ℕ) : ℕ → List Ranged → ℕ → Type 0 where
+  none : {a b : ℕ} → a ≤ b → InOrder s a [] b
+  -- the digits of the next one stand from c up to d, and the others after them
+  next : {a c d b : ℕ} {n : Number} {low high : ℕ} {ns : List Ranged} → a ≤ c → NumberAt s c n d → InOrder s d ns b → InOrder s a (ranged n low high ∷ ns) b
+
+-- the numbers of a format's items stand so in its text, each as its value, in the order of `numbers`
+abbrev pub NumbersInOrder : Type 0
+NumbersInOrder = (s : List ℕ) (xs : Items) → Format s xs → InOrder s 0 (numbers xs) (length s)
 
 -- ---- the format check: what is accepted and what each row refuses, in terms of the grammar
 

@@ -16,6 +16,7 @@ use Rattle.format_grammar.specs.Reading.{Use, Mode, Open, State, Reading, pick,
 use Rattle.format_grammar.proofs.ReadLaws.{read-step, read-end, read-same, read-stuck, step-used}
 use Rattle.format_words.specs.Words.{word, kindOf, firstOf, secondOf, metOf}
 use Rattle.format_words.specs.Held.{First}
+use Rattle.format_words.proofs.WordLaws.{met-I, met-F, met-L, met-A, met-Aw, met-X, met-T, met-slash}
 use Rattle.format_read.specs.Steps.{NumberFound, keepFirst, outsideAfter, ItemRead, Stuck, Ends}
 
 -- ---- numbers out of range
@@ -61,13 +62,20 @@ module _ {s : List ℕ} {from v at : ℕ} (f : NumberFound s from v at) (u : Use
     number-ends x g l xs q = f .runs u l xs q ∙ read-same s at _ (State.within Mode.after l (join xs x) q) (λ h. after l xs q h ∙ g l xs q (getD s at 0)) refl
 
     -- no item goes on after it
+    pub number-stuck-at : (l : ℕ) (xs : Items) (q : Open) → used u n at l xs q (getD s at 0) ≡ State.dead → readAt s from (State.within (Mode.digits u from 0) l xs q) ≡ Reading.wrong at
+    number-stuck-at l xs q g = f .runs u l xs q ∙ read-stuck s at _ (λ h. after l xs q h ∙ g) refl
+
     pub number-stuck : ((l : ℕ) (xs : Items) (q : Open) → used u n at l xs q (getD s at 0) ≡ State.dead) → Stuck s from (Mode.digits u from 0) at
-    number-stuck g l xs q = f .runs u l xs q ∙ read-stuck s at _ (λ h. after l xs q h ∙ g l xs q) refl
+    number-stuck g l xs q = number-stuck-at l xs q (g l xs q)
 
     -- the byte after it goes on
+    pub number-on-at : at < length s → (l : ℕ) (xs : Items) (q : Open) (to : State) → used u n at l xs q (getD s at 0) ≡ to → ((a b : Reading) → unlessDead to a b ≡ b)
+        → readAt s from (State.within (Mode.digits u from 0) l xs q) ≡ readAt s (at + 1) to
+    number-on-at h l xs q to g live = f .runs u l xs q ∙ read-step s at _ to h (after l xs q h ∙ g) live
+
     pub number-on : at < length s → (to : ℕ → Items → Open → State) → ((l : ℕ) (xs : Items) (q : Open) → used u n at l xs q (getD s at 0) ≡ to l xs q) → ((l : ℕ) (xs : Items) (q : Open) (a b : Reading) → unlessDead (to l xs q) a b ≡ b)
         → (l : ℕ) (xs : Items) (q : Open) → readAt s from (State.within (Mode.digits u from 0) l xs q) ≡ readAt s (at + 1) (to l xs q)
-    number-on h to g live l xs q = f .runs u l xs q ∙ read-step s at _ (to l xs q) h (after l xs q h ∙ g l xs q) (live l xs q)
+    number-on h to g live l xs q = number-on-at h l xs q (to l xs q) (g l xs q) (live l xs q)
 
 -- ---- words of items
 
@@ -84,7 +92,7 @@ module _ {s : List ℕ} {at v next : ℕ} (f : NumberFound s at v next) {u : Use
   one-missing z = subst (λ (p : ℕ). Stuck s at (Mode.digits u at 0) p) z (number-stuck f u Repeat.absent (written-absent at next v z) (λ l xs q. e .needed next l xs q (getD s next 0)))
 
   pub one-read : (next ≡ at → ⊥) → kind < 8 → (r : ℕ) → times k ≡ r → r < 1000 → (o o' : ℕ) → o' ≡ keepFirst o (ranged (number at v) 1 high)
-      → ItemRead s at (Mode.digits u at 0) (repeatNumbers k) o (v * 16 + kind) r next o'
+      → ItemRead s at (Mode.digits u at 0) (repeatNumbers k) at o (v * 16 + kind) r next o'
   one-read z low r rep few o o' out =
       let n = number at v in
       record {
@@ -106,7 +114,7 @@ module _ {s : List ℕ} {at v next : ℕ} (f : NumberFound s at v next) {u : Use
 -- ---- what each letter asks for
 
 pub ends-I : (k : Repeat) → Ends (Use.widthI k) k 0 64
-unfolding numbers metOf
+unfolding numbers
 ends-I k =
     record {
       item = λ w. Items.field k (Field.I w) Items.none;
@@ -114,6 +122,123 @@ ends-I k =
       needed = λ at l xs q b. refl;
       enough = λ n at l xs q b. refl;
       first = λ n. First.field;
-      means = λ t n h. ?;
-      numbers-are = λ n. ?;
+      means = λ t n h. met-I t (valueOf n) h;
+      numbers-are = λ n. append-nil (repeatNumbers k ++ ranged n 1 64 ∷ []);
     }
+
+pub ends-L : (k : Repeat) → Ends (Use.widthL k) k 2 64
+unfolding numbers
+ends-L k =
+    record {
+      item = λ w. Items.field k (Field.L w) Items.none;
+      met = λ w. Met.field (Field.L (valueOf w));
+      needed = λ at l xs q b. refl;
+      enough = λ n at l xs q b. refl;
+      first = λ n. First.field;
+      means = λ t n h. met-L t (valueOf n) h;
+      numbers-are = λ n. append-nil (repeatNumbers k ++ ranged n 1 64 ∷ []);
+    }
+
+pub ends-T : Ends Use.column Repeat.absent 6 255
+unfolding numbers
+ends-T =
+    record {
+      item = λ n. Items.T n Items.none;
+      met = λ n. Met.T (valueOf n);
+      needed = λ at l xs q b. refl;
+      enough = λ n at l xs q b. refl;
+      first = λ n. First.T;
+      means = λ t n h. met-T t (valueOf n) h;
+      numbers-are = λ n. refl;
+    }
+
+-- ---- A: a number or none
+
+module _ {s : List ℕ} {at v next : ℕ} (f : NumberFound s at v next) (k : Repeat) (r : ℕ) (rep : times k ≡ r) (few : r < 1000) (o : ℕ) where
+  pub text-alone : next ≡ at → ItemRead s at (Mode.digits (Use.widthA k) at 0) (repeatNumbers k) at o 3 r next o
+  unfolding numbers
+  text-alone z =
+      record {
+        item = Items.field k Field.A Items.none;
+        met = Met.field Field.A;
+        late = [];
+        first = subst (λ (m : ℕ). First (Items.field k Field.A Items.none) m (Met.field Field.A) Items.none) rep First.field;
+        runs = number-ends f (Use.widthA k) Repeat.absent (written-absent at next v z) (Items.field k Field.A Items.none) (λ l xs q b. refl);
+        means = λ t. met-A t;
+        kind = omega arith;
+        numbers-are = append-nil (repeatNumbers k ++ []);
+        outside-is = sym (outside-none o);
+        low-word = omega arith;
+        few = few;
+        more = f .low;
+        high = f .high;
+      }
+
+  pub text-wide : (next ≡ at → ⊥) → (o' : ℕ) → o' ≡ keepFirst o (ranged (number at v) 1 64) → ItemRead s at (Mode.digits (Use.widthA k) at 0) (repeatNumbers k) at o (v * 16 + 4) r next o'
+  unfolding numbers
+  text-wide z o' out =
+      let n = number at v in
+      record {
+        item = Items.field k (Field.Aw n) Items.none;
+        met = Met.field (Field.Aw v);
+        late = ranged n 1 64 ∷ [];
+        first = subst (λ (m : ℕ). First (Items.field k (Field.Aw n) Items.none) m (Met.field (Field.Aw v)) Items.none) rep First.field;
+        runs = number-ends f (Use.widthA k) (Repeat.given n) (written-given at next v z) (Items.field k (Field.Aw n) Items.none) (λ l xs q b. refl);
+        means = λ t. subst (λ (w : ℕ). metOf t w ≡ Met.field (Field.Aw v)) (plain-word 4 v) (met-Aw t v (omega (arith, f .small)));
+        kind = omega arith;
+        numbers-are = append-nil (repeatNumbers k ++ ranged n 1 64 ∷ []);
+        outside-is = out ∙ sym (outside-one o (ranged n 1 64));
+        low-word = omega (arith, f .small);
+        few = few;
+        more = f .low;
+        high = f .high;
+      }
+
+-- ---- F: a number, a point, a number
+
+module _ {s : List ℕ} {at w point : ℕ} (f : NumberFound s at w point) (k : Repeat) where
+  pub decimal-missing : point ≡ at → Stuck s at (Mode.digits (Use.widthF k) at 0) at
+  decimal-missing z =
+      subst (λ (p : ℕ). Stuck s at (Mode.digits (Use.widthF k) at 0) p) z
+      (number-stuck f (Use.widthF k) Repeat.absent (written-absent at point w z) (λ l xs q. pick-same (eqb (getD s point 0) 46) State.dead))
+
+  module _ (z : point ≡ at → ⊥) where
+    pub decimal-no-point : (getD s point 0 ≡ 46 → ⊥) → Stuck s at (Mode.digits (Use.widthF k) at 0) point
+    decimal-no-point d = number-stuck f (Use.widthF k) (Repeat.given (number at w)) (written-given at point w z) (λ l xs q. simp (ne-eqb (getD s point 0) 46 d))
+
+    module _ (h : point < length s) (e : getD s point 0 ≡ 46) where
+      pub decimal-on : (l : ℕ) (xs : Items) (q : Open)
+          → readAt s at (State.within (Mode.digits (Use.widthF k) at 0) l xs q) ≡ readAt s (point + 1) (State.within (Mode.digits (Use.places k (number at w)) (point + 1) 0) l xs q)
+      decimal-on =
+          number-on f (Use.widthF k) (Repeat.given (number at w)) (written-given at point w z) h (λ l xs q. State.within (Mode.digits (Use.places k (number at w)) (point + 1) 0) l xs q)
+          (λ l xs q. simp (eq-eqb (getD s point 0) 46 e)) (λ l xs q a b. refl)
+
+      module _ {d next : ℕ} (g : NumberFound s (point + 1) d next) where
+        pub decimal-no-places : next ≡ point + 1 → Stuck s at (Mode.digits (Use.widthF k) at 0) (point + 1)
+        decimal-no-places y l xs q =
+            decimal-on l xs q
+            ∙ subst (λ (p : ℕ). Stuck s (point + 1) (Mode.digits (Use.places k (number at w)) (point + 1) 0) p) y
+            (number-stuck g (Use.places k (number at w)) Repeat.absent (written-absent (point + 1) next d y) (λ l xs q. refl)) l xs q
+
+        pub decimal-read : (next ≡ point + 1 → ⊥) → (r : ℕ) → times k ≡ r → r < 1000 → (o o₁ o₂ : ℕ) → o₁ ≡ keepFirst o (ranged (number at w) 1 64) → o₂ ≡ keepFirst o₁ (ranged (number (point + 1) d) 0 9)
+            → ItemRead s at (Mode.digits (Use.widthF k) at 0) (repeatNumbers k) at o ((d * 1024 + w) * 16 + 1) r next o₂
+        unfolding numbers outsideAfter
+        decimal-read y r rep few o o₁ o₂ x₁ x₂ =
+            let m = number at w in
+            let n = number (point + 1) d in
+            let item = Items.field k (Field.F m n) Items.none in
+            record {
+              item = item;
+              met = Met.field (Field.F w d);
+              late = ranged m 1 64 ∷ ranged n 0 9 ∷ [];
+              first = subst (λ (j : ℕ). First (Items.field k (Field.F m n) Items.none) j (Met.field (Field.F w d)) Items.none) rep First.field;
+              runs = λ l xs q. decimal-on l xs q ∙ number-ends g (Use.places k m) (Repeat.given n) (written-given (point + 1) next d y) (Items.field k (Field.F m n) Items.none) (λ l xs q b. refl) l xs q;
+              means = λ t. met-F t w d (omega (arith, f .small));
+              kind = omega arith;
+              numbers-are = append-nil (repeatNumbers k ++ ranged m 1 64 ∷ ranged n 0 9 ∷ []);
+              outside-is = x₂ ∙ ap (λ (z : ℕ). keepFirst z (ranged n 0 9)) x₁;
+              low-word = omega (arith, f .small, g .small);
+              few = few;
+              more = omega (arith, f .low, g .low);
+              high = g .high;
+            }

@@ -44,8 +44,9 @@ outsideAfter o (n ∷ ns) = outsideAfter (keepFirst o n) ns
 
 -- ---- items that are neither groups nor literals
 
--- from the mode m at a, an item was read up to `next`; its numbers but for ns, which come first, were looked at
-pub record ItemRead (s : List ℕ) (a : ℕ) (m : Mode) (ns : List Ranged) (o : ℕ) (w r next o' : ℕ) : Type 0 where
+-- from the mode m at a, an item was read up to `next`, which is not before `least`; its numbers but for ns, which come
+-- first, were looked at
+pub record ItemRead (s : List ℕ) (a : ℕ) (m : Mode) (ns : List Ranged) (least o : ℕ) (w r next o' : ℕ) : Type 0 where
   pub item : Items
   pub met : Met
   pub late : List Ranged
@@ -57,19 +58,19 @@ pub record ItemRead (s : List ℕ) (a : ℕ) (m : Mode) (ns : List Ranged) (o : 
   pub outside-is : o' ≡ outsideAfter o late
   pub low-word : w < 33554432
   pub few : r < 1000
-  pub more : a ≤ next
+  pub more : least ≤ next
   pub high : next ≤ length s
 
 -- no item goes on from the mode m at a, because of the byte at p
 abbrev pub Stuck : List ℕ → ℕ → Mode → ℕ → Type 0
 Stuck s a m p = (l : ℕ) (xs : Items) (q : Open) → readAt s a (State.within m l xs q) ≡ Reading.wrong p
 
-abbrev pub itemRead : List ℕ → ℕ → Mode → List Ranged → ℕ → Single → Type 0
-itemRead s a m ns o (single.Word w r next o') = ItemRead s a m ns o w r next o'
-itemRead s a m ns o (single.Wrong p) = Stuck s a m p
+abbrev pub itemRead : List ℕ → ℕ → Mode → List Ranged → ℕ → ℕ → Single → Type 0
+itemRead s a m ns least o (single.Word w r next o') = ItemRead s a m ns least o w r next o'
+itemRead s a m ns least o (single.Wrong p) = Stuck s a m p
 
 abbrev pub ended : List ℕ → ℕ → Use → Repeat → ℕ → Single → Type 0
-ended s at u k o x = itemRead s at (Mode.digits u at 0) (repeatNumbers k) o x
+ended s at u k o x = itemRead s at (Mode.digits u at 0) (repeatNumbers k) at o x
 
 -- one number, from 1 to `high`, ends an item of this kind whose repeat is k
 pub record Ends (u : Use) (k : Repeat) (kind high : ℕ) : Type 0 where
@@ -104,14 +105,13 @@ literalFound s at m t c u (literal.Wrong p) = Stuck s at (Mode.inside m []) p
 
 -- ---- items with their entries
 
--- room for what can be read from a position on
-pub record Room (s : List ℕ) (p : Position) (a t : List ℕ) : Type 0 where
+-- room for the entries of what can be read from a position on
+pub record Room (s : List ℕ) (p : Position) (a : List ℕ) : Type 0 where
   pub within : p .at ≤ length s
   pub short : length s ≤ 1024
   pub few-entries : p .entries ≤ p .at
   pub few-chars : p .chars ≤ p .at
   pub entries-fit : length s ≤ length a
-  pub chars-fit : length s ≤ length t
 
 -- from the mode m at p, items were read up to the state `to` at p'; their entries and characters were added to a and t
 pub record Took (s : List ℕ) (l : ℕ) (m : Mode) (to : ℕ → Items → Open → State) (p : Position) (a t : List ℕ) (p' : Position) (b u : List ℕ) : Type 0 where

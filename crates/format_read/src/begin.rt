@@ -28,7 +28,7 @@ fn is_mark(b: u8) -> bool
 
 // A literal, with its entry; its opening mark m stands at p.at.
 fn read_literal_item(text: &[u8], p: Position, m: u8, entries: &mut [u64], chars: &mut [u8]) -> Head
-    requires { ⌜ Room (now text) p (now entries) (now chars) ⌝ }
+    requires { ⌜ Room (now text) p (now entries) × (length (now text) ≤ length (now chars)) ⌝ }
     requires { ⌜ (p .at < length (now text)) × (getD (now text) (p .at) 0 ≡ m) × ((eqb m apostrophe || eqb m quotationMark) ≡ true) ⌝ }
     ensures { λ r. ⌜ ((l : ℕ) → headed (now (text .entry)) l p (now (entries .entry)) (now (chars .entry)) (now (entries .exit)) (now (chars .exit)) r) ⌝ }
 {
@@ -56,7 +56,7 @@ fn read_literal_item(text: &[u8], p: Position, m: u8, entries: &mut [u64], chars
 
 // An item that is neither a group nor a literal, with its entry; digits from p.at up to `next` begin it.
 fn read_single_item(text: &[u8], p: Position, next: usize, value: u64, entries: &mut [u64]) -> Head
-    requires { ⌜ ((t : List ℕ) → length (now text) ≤ length t → Room (now text) p (now entries) t) ⌝ }
+    requires { ⌜ Room (now text) p (now entries) ⌝ }
     requires { ⌜ NumberFound (now text) (p .at) value next ⌝ }
     requires { ⌜ (next < length (now text)) × NoBracketOrMark (getD (now text) next 0) ⌝ }
     ensures { λ r. ⌜ ((l : ℕ) (t : List ℕ) → headed (now (text .entry)) l p (now (entries .entry)) t (now (entries .exit)) t r) ⌝ }
@@ -90,7 +90,7 @@ pub fn read_head(
     entries: &mut [u64],
     chars: &mut [u8],
 ) -> Head
-    requires { ⌜ Room (now text) p (now entries) (now chars) ⌝ }
+    requires { ⌜ Room (now text) p (now entries) × (length (now text) ≤ length (now chars)) ⌝ }
     ensures { λ r. ⌜ headed (now (text .entry)) level p (now (entries .entry)) (now (chars .entry)) (now (entries .exit)) (now (chars .exit)) r ⌝ }
 {
     let at = p.at;

@@ -28,7 +28,7 @@ fn read_item(
     entries: &mut [u64],
     chars: &mut [u8],
 ) -> Answer
-    requires { ⌜ Room (now text) p (now entries) (now chars) ⌝ }
+    requires { ⌜ Room (now text) p (now entries) × (length (now text) ≤ length (now chars)) ⌝ }
     ensures { λ r. ⌜ took (now (text .entry)) level (State.within Mode.after) p (now (entries .entry)) (now (chars .entry)) (now (entries .exit)) (now (chars .exit)) r ⌝ }
 {
     let n = p.entries;
@@ -59,7 +59,7 @@ pub fn read_items(
     entries: &mut [u64],
     chars: &mut [u8],
 ) -> Answer
-    requires { ⌜ Room (now text) start (now entries) (now chars) ⌝ }
+    requires { ⌜ Room (now text) start (now entries) × (length (now text) ≤ length (now chars)) ⌝ }
     ensures { λ r. ⌜ took (now (text .entry)) level close start (now (entries .entry)) (now (chars .entry)) (now (entries .exit)) (now (chars .exit)) r ⌝ }
 {
     let mut p = start;

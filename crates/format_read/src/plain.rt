@@ -12,7 +12,7 @@ use format_words::KIND_T;
 use format_words::KIND_X;
 ghost use mathlib.Core.Path.{_≡_};
 ghost use mathlib.Core.List.{[]};
-ghost use Prim.Native.Nat.{ℕ, _<_, _≤_};
+ghost use Prim.Native.Nat.{ℕ, _+_, _<_, _≤_};
 ghost use lib.ListN.{length, getD};
 ghost use Rattle.format_grammar.specs.Items.{Repeat, times};
 ghost use Rattle.format_grammar.specs.Ranges.{repeatNumbers};
@@ -118,7 +118,7 @@ pub fn outside_of(outside: usize, from: usize, at: usize, value: u64) -> usize
 pub fn read_single(text: &[u8], from: usize, at: usize, value: u64, outside: usize) -> Single
     requires { ⌜ NumberFound (now text) from value at ⌝ }
     requires { ⌜ (at < length (now text)) × (length (now text) ≤ 1024) × NoBracketOrMark (getD (now text) at 0) ⌝ }
-    ensures { λ r. ⌜ itemRead (now (text .entry)) from (wanted from) [] outside r ⌝ }
+    ensures { λ r. ⌜ itemRead (now (text .entry)) from (wanted from) [] (from + 1) outside r ⌝ }
 {
     let b = text[at];
     let r = repeat_of(from, at, value);

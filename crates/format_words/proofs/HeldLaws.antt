@@ -39,7 +39,7 @@ holds-join (Holds.group i g h j) k = Holds.group i g h (holds-join j k)
 
 -- ---- kept
 
-drop-take : (a b : ℕ) (s : List ℕ) → drop a (take (a + b) s) ≡ take b (drop a s)
+pub drop-take : (a b : ℕ) (s : List ℕ) → drop a (take (a + b) s) ≡ take b (drop a s)
 drop-take zero b s = rw (zero-add b)
 drop-take (suc a) b [] = rw (take-nil {A = ℕ} (suc a + b), take-nil {A = ℕ} b)
 drop-take (suc a) b (x ∷ s) = rw (suc-add a b) (drop-take a b s)

@@ -4,6 +4,7 @@ use mathlib.Core.Path.{_≡_, refl, _∙_}
 use mathlib.Core.List.{List}
 use Prim.Native.Nat.{ℕ, _+_, _*_, _/_, _%_, _<_, _≤_}
 use native.Mathlib.Omega.{arith}
+use borrow.Author.Tests.{ne-eqb}
 use lib.ListN.{take, drop}
 use Rattle.format_grammar.specs.Items.{Field}
 use Rattle.format_grammar.specs.Met.{Met}
@@ -70,3 +71,7 @@ module _ (t : List ℕ) where
 pub reach-literal : (a b : ℕ) → a < 1024 → reach (word 8 a b) ≡ a + b
 unfolding reach
 reach-literal a b h = simp (kind-word 8 a b (omega arith), first-word 8 a b (omega arith) h, second-word 8 a b (omega arith) h)
+
+pub reach-other : (w : ℕ) → kindOf w < 8 → reach w ≡ 0
+unfolding reach
+reach-other w h = simp (ne-eqb (kindOf w) 8 (λ e. omega arith))

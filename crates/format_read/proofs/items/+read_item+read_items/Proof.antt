@@ -1,3 +1,13 @@
+-- `format_read::items::read_item` and `format_read::items::read_items` meet their contracts.
+-- Assumes nothing.
+use mathlib.Core.Path.{_≡_, refl, sym, ap, _∙_}
+use Prim.Native.Nat.{_+_, _-_, _*_}
+use native.Mathlib.Omega.{arith}
+use borrow.Author.Needs.{needs}
+use lib.ListN.{length}
+use Rattle.format_grammar.specs.Items.{Items}
+use Rattle.format_grammar.specs.Reading.{Open}
+use Rattle.format_read.proofs.GroupSteps.{group-fits, took-group, SoFar, so-far-none, so-far-wrong, so-far-end, so-far-other, so-far-closed, so-far-more}
 use Prim.Native.Nat.{ℕ, _<_}
 use borrow.Fn.Kinds.{In}
 use borrow.Fn.PlainCycle.{Measures, is, falls, and}
@@ -13,10 +23,10 @@ use Rattle.format_read.proofs.items.+read_item+read_items.{statement}
 use Rattle.format_read.proofs.items.+read_item+read_items.Tie.{close}
 
 abbrev μ-read-item : Measures 3 read-item-kinds.ps ℕ
-μ-read-item κs a = ?
+μ-read-item κs a = a .1 .1 .0 * 2
 
 abbrev μ-read-items : Measures 3 read-items-kinds.ps ℕ
-μ-read-items κs a = ?
+μ-read-items κs a = a .1 .1 .0 * 2 + 1
 
 abbrev read-item-at : ℕ → In 3 read-item-kinds.ps
 read-item-at t = and 3 read-item-kinds.ps (is 3 read-item-kinds.ps μ-read-item t) read-item.Pre
@@ -42,7 +52,7 @@ read-item-read-head-requires : (t : ℕ) → read-item-lts.Need-read-head-requir
   put-group-reads.Asked,
   put-group-reads.Learnt,
 ) (read-item-at t) read-item.Post
-read-item-read-head-requires t c κs = ?
+read-item-read-head-requires t c κs = c .before .before .before .before .before .pre .1
 
 -- src/items.rt:36:23
 read-item-enum-known-place : (t : ℕ) → read-item-lts.Need-enum-known-place (
@@ -53,7 +63,7 @@ read-item-enum-known-place : (t : ℕ) → read-item-lts.Need-enum-known-place (
   put-group-reads.Asked,
   put-group-reads.Learnt,
 ) (read-item-at t) read-item.Post
-read-item-enum-known-place t c = ?
+read-item-enum-known-place t c = search needs
 
 -- src/items.rt:37:21
 read-item-enum-known-after : (t : ℕ) → read-item-lts.Need-enum-known-after (
@@ -64,7 +74,7 @@ read-item-enum-known-after : (t : ℕ) → read-item-lts.Need-enum-known-after (
   put-group-reads.Asked,
   put-group-reads.Learnt,
 ) (read-item-at t) read-item.Post
-read-item-enum-known-after t c = ?
+read-item-enum-known-after t c = search needs
 
 -- src/items.rt:38:23
 read-item-enum-known-inside : (t : ℕ) → read-item-lts.Need-enum-known-inside (
@@ -75,7 +85,7 @@ read-item-enum-known-inside : (t : ℕ) → read-item-lts.Need-enum-known-inside
   put-group-reads.Asked,
   put-group-reads.Learnt,
 ) (read-item-at t) read-item.Post
-read-item-enum-known-inside t c = ?
+read-item-enum-known-inside t c = search needs
 
 -- src/items.rt:41:13
 read-item-sub-read-items : (t : ℕ) → read-item-lts.Need-sub-read-items (
@@ -86,7 +96,7 @@ read-item-sub-read-items : (t : ℕ) → read-item-lts.Need-sub-read-items (
   put-group-reads.Asked,
   put-group-reads.Learnt,
 ) (read-item-at t) read-item.Post
-read-item-sub-read-items t c = ?
+read-item-sub-read-items t c = let o = rw (c .before .inside .given .1) at (c .before .before .before .before .before .before .before .read-head .ensures) in omega (arith, o .deep)
 
 -- src/items.rt:38:49
 read-item-read-items-requires : (t : ℕ) → read-item-lts.Need-read-items-requires (
@@ -97,7 +107,12 @@ read-item-read-items-requires : (t : ℕ) → read-item-lts.Need-read-items-requ
   put-group-reads.Asked,
   put-group-reads.Learnt,
 ) (read-item-at t) read-item.Post
-read-item-read-items-requires t c κs = ?
+read-item-read-items-requires t c κs = let o = rw (c .before .before .before .inside .given .1) at (c .before .before .before .before .before .before .before .before .before .read-head .ensures) in
+    let room = c .before .before .before .before .before .before .before .before .before .before .before .before .before .before .before .pre .1 .0 in
+    let kept = c .before .before .before .before .before .before .before .before .before .read-head .kept .1 .1 .1 in
+    (omega (arith, o .deep, c .before .before .before .before .before .before .before .before .before .before .before .before .before .before .before .pre .0),
+      (record { within = o .high; short = room .short; few-entries = omega (arith, o .entries-are, o .more, room .few-entries); few-chars = omega (arith, o .chars-are, o .more, room .few-chars); entries-fit = omega (arith, kept .0, room .entries-fit) },
+      omega (arith, kept .1 .0, c .before .before .before .before .before .before .before .before .before .before .before .before .before .before .before .pre .1 .1)))
 
 -- src/items.rt:45:29
 read-item-enum-known-place-2 : (t : ℕ) → read-item-lts.Need-enum-known-place-2 (
@@ -108,7 +123,7 @@ read-item-enum-known-place-2 : (t : ℕ) → read-item-lts.Need-enum-known-place
   put-group-reads.Asked,
   put-group-reads.Learnt,
 ) (read-item-at t) read-item.Post
-read-item-enum-known-place-2 t c = ?
+read-item-enum-known-place-2 t c = search needs
 
 -- src/items.rt:46:26
 read-item-enum-known-after-2 : (t : ℕ) → read-item-lts.Need-enum-known-after-2 (
@@ -119,7 +134,7 @@ read-item-enum-known-after-2 : (t : ℕ) → read-item-lts.Need-enum-known-after
   put-group-reads.Asked,
   put-group-reads.Learnt,
 ) (read-item-at t) read-item.Post
-read-item-enum-known-after-2 t c = ?
+read-item-enum-known-after-2 t c = search needs
 
 -- src/items.rt:47:17
 read-item-put-group-requires : (t : ℕ) → read-item-lts.Need-put-group-requires (
@@ -130,7 +145,9 @@ read-item-put-group-requires : (t : ℕ) → read-item-lts.Need-put-group-requir
   put-group-reads.Asked,
   put-group-reads.Learnt,
 ) (read-item-at t) read-item.Post
-read-item-put-group-requires t c κs = ?
+read-item-put-group-requires t c κs = let o = rw (c .before .before .before .before .before .before .before .before .before .before .before .before .inside .given .1) at (c .before .before .before .before .before .before .before .before .before .before .before .before .before .before .before .before .before .before .read-head .ensures) in
+    let k = rw (c .before .before .after2 .given .1) at (c .before .before .before .before .before .before .before .before .read-items .ensures) in
+    group-fits (c .before .before .before .before .before .before .before .before .before .before .before .before .before .before .before .before .before .before .before .before .before .before .before .before .pre .1 .0) o k (c .before .before .before .before .before .before .before .before .read-items .kept .1 .1 .1 .0 ∙ c .before .before .before .before .before .before .before .before .before .before .before .before .before .before .before .before .before .before .read-head .kept .1 .1 .1 .0)
 
 -- src/items.rt:24:1
 read-item-same-length : (t : ℕ) → read-item-lts.Need-same-length (
@@ -141,7 +158,7 @@ read-item-same-length : (t : ℕ) → read-item-lts.Need-same-length (
   put-group-reads.Asked,
   put-group-reads.Learnt,
 ) (read-item-at t) read-item.Post
-read-item-same-length t c = ?
+read-item-same-length t c = search needs
 
 -- src/items.rt:24:1
 read-item-same-length-2 : (t : ℕ) → read-item-lts.Need-same-length-2 (
@@ -152,7 +169,7 @@ read-item-same-length-2 : (t : ℕ) → read-item-lts.Need-same-length-2 (
   put-group-reads.Asked,
   put-group-reads.Learnt,
 ) (read-item-at t) read-item.Post
-read-item-same-length-2 t c = ?
+read-item-same-length-2 t c = search needs
 
 -- src/items.rt:24:1
 read-item-returns : (t : ℕ) → read-item-lts.Need-returns (
@@ -163,7 +180,7 @@ read-item-returns : (t : ℕ) → read-item-lts.Need-returns (
   put-group-reads.Asked,
   put-group-reads.Learnt,
 ) (read-item-at t) read-item.Post
-read-item-returns t c = ?
+read-item-returns t c = rw (c .before .place .given .1) at (c .before .before .before .before .before .before .before .read-head .ensures)
 
 -- src/items.rt:24:1
 read-item-same-length-3 : (t : ℕ) → read-item-lts.Need-same-length-3 (
@@ -174,7 +191,7 @@ read-item-same-length-3 : (t : ℕ) → read-item-lts.Need-same-length-3 (
   put-group-reads.Asked,
   put-group-reads.Learnt,
 ) (read-item-at t) read-item.Post
-read-item-same-length-3 t c = ?
+read-item-same-length-3 t c = search needs
 
 -- src/items.rt:24:1
 read-item-same-length-4 : (t : ℕ) → read-item-lts.Need-same-length-4 (
@@ -185,7 +202,7 @@ read-item-same-length-4 : (t : ℕ) → read-item-lts.Need-same-length-4 (
   put-group-reads.Asked,
   put-group-reads.Learnt,
 ) (read-item-at t) read-item.Post
-read-item-same-length-4 t c = ?
+read-item-same-length-4 t c = search needs
 
 -- src/items.rt:24:1
 read-item-returns-2 : (t : ℕ) → read-item-lts.Need-returns-2 (
@@ -196,7 +213,7 @@ read-item-returns-2 : (t : ℕ) → read-item-lts.Need-returns-2 (
   put-group-reads.Asked,
   put-group-reads.Learnt,
 ) (read-item-at t) read-item.Post
-read-item-returns-2 t c = ?
+read-item-returns-2 t c = rw (c .before .after .given .1) at (c .before .before .before .before .before .before .before .read-head .ensures)
 
 -- src/items.rt:24:1
 read-item-same-length-5 : (t : ℕ) → read-item-lts.Need-same-length-5 (
@@ -207,7 +224,7 @@ read-item-same-length-5 : (t : ℕ) → read-item-lts.Need-same-length-5 (
   put-group-reads.Asked,
   put-group-reads.Learnt,
 ) (read-item-at t) read-item.Post
-read-item-same-length-5 t c = ?
+read-item-same-length-5 t c = search needs
 
 -- src/items.rt:24:1
 read-item-same-length-6 : (t : ℕ) → read-item-lts.Need-same-length-6 (
@@ -218,7 +235,7 @@ read-item-same-length-6 : (t : ℕ) → read-item-lts.Need-same-length-6 (
   put-group-reads.Asked,
   put-group-reads.Learnt,
 ) (read-item-at t) read-item.Post
-read-item-same-length-6 t c = ?
+read-item-same-length-6 t c = search needs
 
 -- src/items.rt:24:1
 read-item-returns-3 : (t : ℕ) → read-item-lts.Need-returns-3 (
@@ -229,7 +246,9 @@ read-item-returns-3 : (t : ℕ) → read-item-lts.Need-returns-3 (
   put-group-reads.Asked,
   put-group-reads.Learnt,
 ) (read-item-at t) read-item.Post
-read-item-returns-3 t c = ?
+read-item-returns-3 t c = let o = rw (c .before .before .before .before .before .before .before .before .before .before .before .inside .given .1) at (c .before .before .before .before .before .before .before .before .before .before .before .before .before .before .before .before .before .read-head .ensures) in
+    let w = rw (c .before .place2 .given .1) at (c .before .before .before .before .before .before .before .read-items .ensures) in
+    λ xs q. o .runs xs q ∙ w Items.none (Open.group xs (o .k) q)
 
 -- src/items.rt:24:1
 read-item-same-length-7 : (t : ℕ) → read-item-lts.Need-same-length-7 (
@@ -240,7 +259,7 @@ read-item-same-length-7 : (t : ℕ) → read-item-lts.Need-same-length-7 (
   put-group-reads.Asked,
   put-group-reads.Learnt,
 ) (read-item-at t) read-item.Post
-read-item-same-length-7 t c = ?
+read-item-same-length-7 t c = search needs
 
 -- src/items.rt:24:1
 read-item-same-length-8 : (t : ℕ) → read-item-lts.Need-same-length-8 (
@@ -251,7 +270,7 @@ read-item-same-length-8 : (t : ℕ) → read-item-lts.Need-same-length-8 (
   put-group-reads.Asked,
   put-group-reads.Learnt,
 ) (read-item-at t) read-item.Post
-read-item-same-length-8 t c = ?
+read-item-same-length-8 t c = search needs
 
 -- src/items.rt:24:1
 read-item-returns-4 : (t : ℕ) → read-item-lts.Need-returns-4 (
@@ -262,48 +281,50 @@ read-item-returns-4 : (t : ℕ) → read-item-lts.Need-returns-4 (
   put-group-reads.Asked,
   put-group-reads.Learnt,
 ) (read-item-at t) read-item.Post
-read-item-returns-4 t c = ?
+read-item-returns-4 t c = let o = rw (c .before .before .before .before .before .before .before .before .before .before .before .before .before .before .before .inside .given .1) at (c .before .before .before .before .before .before .before .before .before .before .before .before .before .before .before .before .before .before .before .before .before .read-head .ensures) in
+    let k = rw (c .before .before .before .before .before .after2 .given .1) at (c .before .before .before .before .before .before .before .before .before .before .before .read-items .ensures) in
+    took-group (c .before .before .before .before .before .before .before .before .before .before .before .before .before .before .before .before .before .before .before .before .before .before .before .before .before .before .before .pre .1 .0) o k (c .before .before .before .before .before .before .before .before .before .before .before .read-items .kept .1 .1 .1 .0 ∙ c .before .before .before .before .before .before .before .before .before .before .before .before .before .before .before .before .before .before .before .before .before .read-head .kept .1 .1 .1 .0) _ (c .before .before .put-group .ensures)
 
 abbrev read-items-Inv-loop : read-items-lts.InvT-loop
-read-items-Inv-loop text level entries₀ chars₀ p₀ entries chars p = ?
+read-items-Inv-loop text level entries₀ chars₀ p₀ entries chars p = SoFar text level p₀ entries₀ chars₀ p entries chars
 
 abbrev read-items-μ-loop : read-items-lts.MeasureT-loop
-read-items-μ-loop text level entries₀ chars₀ p₀ entries chars p = ?
+read-items-μ-loop text level entries₀ chars₀ p₀ entries chars p = length text - p .at
 
 -- src/items.rt:66:5
 read-items-loop-holds : (t : ℕ) → read-items-lts.Need-loop-holds (
   read-item-below t,
   read-item.Post,
 ) (read-items-at t) read-items.Post read-items-Inv-loop read-items-μ-loop
-read-items-loop-holds t c = ?
+read-items-loop-holds t c = so-far-none (c .before .before .before .pre .1 .0)
 
 -- src/items.rt:67:15
 read-items-read-item-requires : (t : ℕ) → read-items-lts.Need-read-item-requires (
   read-item-below t,
   read-item.Post,
 ) (read-items-at t) read-items.Post read-items-Inv-loop read-items-μ-loop
-read-items-read-item-requires t c κs = ?
+read-items-read-item-requires t c κs = (omega (arith, c .before .before .before .before .before .before .pre .0), (c .before .before .loop .inv .room, omega (arith, c .before .before .before .before .before .before .pre .1 .1, c .before .before .loop .inv .long-chars)))
 
 -- src/items.rt:68:29
 read-items-enum-known-place : (t : ℕ) → read-items-lts.Need-enum-known-place (
   read-item-below t,
   read-item.Post,
 ) (read-items-at t) read-items.Post read-items-Inv-loop read-items-μ-loop
-read-items-enum-known-place t c = ?
+read-items-enum-known-place t c = search needs
 
 -- src/items.rt:68:40
 read-items-same-length : (t : ℕ) → read-items-lts.Need-same-length (
   read-item-below t,
   read-item.Post,
 ) (read-items-at t) read-items.Post read-items-Inv-loop read-items-μ-loop
-read-items-same-length t c = ?
+read-items-same-length t c = search needs
 
 -- src/items.rt:68:40
 read-items-same-length-2 : (t : ℕ) → read-items-lts.Need-same-length-2 (
   read-item-below t,
   read-item.Post,
 ) (read-items-at t) read-items.Post read-items-Inv-loop read-items-μ-loop
-read-items-same-length-2 t c = ?
+read-items-same-length-2 t c = search needs
 
 -- src/items.rt:68:40
 read-items-returns :
@@ -314,28 +335,28 @@ read-items-returns :
     read-items.Post
     read-items-Inv-loop
     read-items-μ-loop
-read-items-returns t c = ?
+read-items-returns t c = so-far-wrong (c .before .before .before .before .before .before .before .before .before .before .loop .inv) _ (rw (c .before .place .given .1) at (c .before .before .before .before .before .before .before .read-item .ensures))
 
 -- src/items.rt:69:26
 read-items-enum-known-after : (t : ℕ) → read-items-lts.Need-enum-known-after (
   read-item-below t,
   read-item.Post,
 ) (read-items-at t) read-items.Post read-items-Inv-loop read-items-μ-loop
-read-items-enum-known-after t c = ?
+read-items-enum-known-after t c = search needs
 
 -- src/items.rt:72:21
 read-items-same-length-3 : (t : ℕ) → read-items-lts.Need-same-length-3 (
   read-item-below t,
   read-item.Post,
 ) (read-items-at t) read-items.Post read-items-Inv-loop read-items-μ-loop
-read-items-same-length-3 t c = ?
+read-items-same-length-3 t c = search needs
 
 -- src/items.rt:72:21
 read-items-same-length-4 : (t : ℕ) → read-items-lts.Need-same-length-4 (
   read-item-below t,
   read-item.Post,
 ) (read-items-at t) read-items.Post read-items-Inv-loop read-items-μ-loop
-read-items-same-length-4 t c = ?
+read-items-same-length-4 t c = search needs
 
 -- src/items.rt:72:21
 read-items-returns-2 :
@@ -346,14 +367,14 @@ read-items-returns-2 :
     read-items.Post
     read-items-Inv-loop
     read-items-μ-loop
-read-items-returns-2 t c = ?
+read-items-returns-2 t c = so-far-end (c .before .before .before .before .before .before .before .before .before .before .before .loop .inv) (rw (c .before .before .after .given .1) at (c .before .before .before .before .before .before .before .before .read-item .ensures)) (c .if1 .taken)
 
 -- src/items.rt:74:25
 read-items-shared-slice-read-b : (t : ℕ) → read-items-lts.Need-shared-slice-read-b (
   read-item-below t,
   read-item.Post,
 ) (read-items-at t) read-items.Post read-items-Inv-loop read-items-μ-loop
-read-items-shared-slice-read-b t c = ?
+read-items-shared-slice-read-b t c = omega arith
 
 -- src/items.rt:76:25
 read-items-add-t17 :
@@ -364,21 +385,21 @@ read-items-add-t17 :
     read-items.Post
     read-items-Inv-loop
     read-items-μ-loop
-read-items-add-t17 t c = ?
+read-items-add-t17 t c = omega arith
 
 -- src/items.rt:82:21
 read-items-same-length-5 : (t : ℕ) → read-items-lts.Need-same-length-5 (
   read-item-below t,
   read-item.Post,
 ) (read-items-at t) read-items.Post read-items-Inv-loop read-items-μ-loop
-read-items-same-length-5 t c = ?
+read-items-same-length-5 t c = search needs
 
 -- src/items.rt:82:21
 read-items-same-length-6 : (t : ℕ) → read-items-lts.Need-same-length-6 (
   read-item-below t,
   read-item.Post,
 ) (read-items-at t) read-items.Post read-items-Inv-loop read-items-μ-loop
-read-items-same-length-6 t c = ?
+read-items-same-length-6 t c = search needs
 
 -- src/items.rt:82:21
 read-items-returns-3 :
@@ -389,21 +410,21 @@ read-items-returns-3 :
     read-items.Post
     read-items-Inv-loop
     read-items-μ-loop
-read-items-returns-3 t c = ?
+read-items-returns-3 t c = so-far-closed (c .before .before .before .before .before .before .before .before .before .before .before .before .before .loop .inv) (rw (c .before .before .before .before .after .given .1) at (c .before .before .before .before .before .before .before .before .before .before .read-item .ensures)) (omega (arith, c .before .before .if1 .left)) (c .before .before .before .before .before .before .before .before .before .before .read-item .kept .1 .1 .1 .0) (c .before .before .before .before .before .before .before .before .before .before .read-item .kept .1 .1 .1 .1 .0) (c .if2 .taken)
 
 -- src/items.rt:85:21
 read-items-same-length-7 : (t : ℕ) → read-items-lts.Need-same-length-7 (
   read-item-below t,
   read-item.Post,
 ) (read-items-at t) read-items.Post read-items-Inv-loop read-items-μ-loop
-read-items-same-length-7 t c = ?
+read-items-same-length-7 t c = search needs
 
 -- src/items.rt:85:21
 read-items-same-length-8 : (t : ℕ) → read-items-lts.Need-same-length-8 (
   read-item-below t,
   read-item.Post,
 ) (read-items-at t) read-items.Post read-items-Inv-loop read-items-μ-loop
-read-items-same-length-8 t c = ?
+read-items-same-length-8 t c = search needs
 
 -- src/items.rt:85:21
 read-items-returns-4 :
@@ -414,7 +435,7 @@ read-items-returns-4 :
     read-items.Post
     read-items-Inv-loop
     read-items-μ-loop
-read-items-returns-4 t c = ?
+read-items-returns-4 t c = so-far-other (c .before .before .before .before .before .before .before .before .before .before .before .before .before .before .loop .inv) (rw (c .before .before .before .before .before .after .given .1) at (c .before .before .before .before .before .before .before .before .before .before .before .read-item .ensures)) (omega (arith, c .before .before .before .if1 .left)) (c .before .if2 .left) (c .if3 .taken)
 
 -- src/items.rt:66:5
 read-items-loop-less :
@@ -425,14 +446,14 @@ read-items-loop-less :
     read-items.Post
     read-items-Inv-loop
     read-items-μ-loop
-read-items-loop-less t c = ?
+read-items-loop-less t c = let k = rw (c .before .before .before .before .before .after .given .1) at (c .before .before .before .before .before .before .before .before .before .before .before .read-item .ensures) in omega (arith, k .more, c .before .before .before .if1 .left)
 
 -- src/items.rt:66:5
 read-items-loop-again : (t : ℕ) → read-items-lts.Need-loop-again (
   read-item-below t,
   read-item.Post,
 ) (read-items-at t) read-items.Post read-items-Inv-loop read-items-μ-loop
-read-items-loop-again t c = ?
+read-items-loop-again t c = so-far-more (c .before .before .before .before .before .before .before .before .before .before .before .before .before .before .loop .inv) (rw (c .before .before .before .before .before .after .given .1) at (c .before .before .before .before .before .before .before .before .before .before .before .read-item .ensures)) (omega (arith, c .before .before .before .if1 .left)) (c .before .before .before .before .before .before .before .before .before .before .before .read-item .kept .1 .1 .1 .0) (c .before .before .before .before .before .before .before .before .before .before .before .read-item .kept .1 .1 .1 .1 .0) (c .if3 .left)
 
 pub +read-item+read-items-spec : {M : Type 1} → statement M
 +read-item+read-items-spec = close μ-read-item μ-read-items (λ t. read-item-lts.spec (

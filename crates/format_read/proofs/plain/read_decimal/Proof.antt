@@ -1,3 +1,8 @@
+-- `format_read::plain::read_decimal` meets its contract.
+-- Assumes nothing.
+use native.Mathlib.Omega.{arith}
+use Rattle.format_grammar.specs.Reading.{Use}
+use Rattle.format_read.proofs.SingleSteps.{number-last, decimal-missing, decimal-no-point, decimal-no-places, decimal-read}
 use borrow.Author.Needs.{needs}
 use Rattle.format_read.proofs.plain.read_decimal.Statement.{statement}
 use Rattle.format_read.proofs.plain.read_decimal.Tie as tie
@@ -12,11 +17,11 @@ read-number-requires c κs = search needs
 
 -- src/plain.rt:74:9
 returns : tie.Need-returns
-returns c = ?
+returns c = λ k rep. decimal-missing (c .before .read-number .ensures) k (c .if1 .taken)
 
 -- src/plain.rt:77:9
 returns-2 : tie.Need-returns-2
-returns-2 c = ?
+returns-2 c = λ k rep. number-last (c .before .before .read-number .ensures) (Use.widthF k) (c .if2 .taken)
 
 -- src/plain.rt:79:8
 shared-slice-read-if3 : tie.Need-shared-slice-read-if3
@@ -24,7 +29,7 @@ shared-slice-read-if3 c = search needs
 
 -- src/plain.rt:80:9
 returns-3 : tie.Need-returns-3
-returns-3 c = ?
+returns-3 c = λ k rep. decimal-no-point (c .before .before .before .before .read-number .ensures) k (c .before .before .before .if1 .left) (c .if3 .taken)
 
 -- src/plain.rt:82:17
 add-start : tie.Need-add-start
@@ -40,7 +45,7 @@ read-number-requires-2 c κs = search needs
 
 -- src/plain.rt:88:9
 returns-4 : tie.Need-returns-4
-returns-4 c = ?
+returns-4 c = λ k rep. decimal-no-places (c .before .before .before .before .before .before .before .read-number .ensures) k (c .before .before .before .before .before .before .if1 .left) (omega (arith, c .before .before .before .before .before .if2 .left)) (c .before .before .before .if3 .left) (c .before .read-number2 .ensures) (c .if4 .taken)
 
 -- src/plain.rt:91:16
 mul-t17 : tie.Need-mul-t17
@@ -64,7 +69,7 @@ first-outside-requires-2 c κs = search needs
 
 -- src/plain.rt:66:1
 returns-5 : tie.Need-returns-5
-returns-5 c = ?
+returns-5 c = λ k rep. decimal-read (c .before .before .before .before .before .before .before .before .read-number .ensures) k (c .before .before .before .before .before .before .before .if1 .left) (omega (arith, c .before .before .before .before .before .before .if2 .left)) (c .before .before .before .before .if3 .left) (c .before .before .read-number2 .ensures) (c .before .if4 .left) _ rep (c .before .before .before .before .before .before .before .before .before .before .pre .2) _ _ _ (c .before .before .before .first-outside .ensures) (c .first-outside2 .ensures)
 
 pub read-decimal-spec : {M : Type 1} → statement M
 read-decimal-spec =

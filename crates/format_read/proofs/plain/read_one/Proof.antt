@@ -1,3 +1,6 @@
+-- `format_read::plain::read_one` meets its contract.
+-- Assumes nothing.
+use Rattle.format_read.proofs.SingleSteps.{one-missing, one-read}
 use borrow.Author.Needs.{needs}
 use Rattle.format_read.proofs.plain.read_one.Statement.{statement}
 use Rattle.format_read.proofs.plain.read_one.Tie as tie
@@ -12,7 +15,7 @@ read-number-requires c κs = search needs
 
 -- src/plain.rt:31:9
 returns : tie.Need-returns
-returns c = ?
+returns c = λ u k rep e. one-missing (c .before .read-number .ensures) e (c .if1 .taken)
 
 -- src/plain.rt:34:15
 mul-t11 : tie.Need-mul-t11
@@ -28,7 +31,7 @@ first-outside-requires c κs = search needs
 
 -- src/plain.rt:23:1
 returns-2 : tie.Need-returns-2
-returns-2 c = ?
+returns-2 c = λ u k rep e. one-read (c .before .before .read-number .ensures) e (c .before .if1 .left) (c .before .before .before .before .pre .2) _ rep (c .before .before .before .before .pre .3) _ _ (c .first-outside .ensures)
 
 pub read-one-spec : {M : Type 1} → statement M
 read-one-spec =

@@ -1,3 +1,6 @@
+-- `format_read::plain::read_text` meets its contract.
+-- Assumes nothing.
+use Rattle.format_read.proofs.SingleSteps.{text-alone, text-wide}
 use borrow.Author.Needs.{needs}
 use Rattle.format_read.proofs.plain.read_text.Statement.{statement}
 use Rattle.format_read.proofs.plain.read_text.Tie as tie
@@ -12,7 +15,7 @@ read-number-requires c κs = search needs
 
 -- src/plain.rt:50:9
 returns : tie.Need-returns
-returns c = ?
+returns c = λ k rep. text-alone (c .before .read-number .ensures) k _ rep (c .before .before .before .pre .2) _ (c .if1 .taken)
 
 -- src/plain.rt:58:15
 mul-t9 : tie.Need-mul-t9
@@ -28,7 +31,7 @@ first-outside-requires c κs = search needs
 
 -- src/plain.rt:42:1
 returns-2 : tie.Need-returns-2
-returns-2 c = ?
+returns-2 c = λ k rep. text-wide (c .before .before .read-number .ensures) k _ rep (c .before .before .before .before .pre .2) _ (c .before .if1 .left) _ (c .first-outside .ensures)
 
 pub read-text-spec : {M : Type 1} → statement M
 read-text-spec =

@@ -1,0 +1,72 @@
+-- The numbers of items stand in the text in the order of their list.
+-- Assumes nothing.
+use mathlib.Core.Path.{_≡_, refl, sym, ap}
+use mathlib.Core.List.{List, [], _∷_, _++_, append-assoc}
+use Prim.Native.Nat.{ℕ, _≤_}
+use native.Mathlib.Omega.{arith}
+use Rattle.format_grammar.specs.Items.{Number, Repeat, Field, Items, join}
+use Rattle.format_grammar.specs.Grammar.{NumberAt, RepeatAt, FieldAt, Sort, Spells}
+use Rattle.format_grammar.specs.Ranges.{Ranged, ranged, counted, repeatNumbers, fieldNumbers, numbers}
+use Rattle.format_grammar.specs.Promises.{InOrder, NumbersInOrder}
+
+-- ---- numbers in order
+
+no-more : {s : List ℕ} {a b : ℕ} → a ≤ b → InOrder s a [] b
+no-more h = InOrder.none h
+
+-- from an earlier offset
+earlier : {s : List ℕ} {a c b : ℕ} {ns : List Ranged} → a ≤ c → InOrder s c ns b → InOrder s a ns b
+earlier h (InOrder.none g) = no-more (omega arith)
+earlier {a} h (InOrder.next {c} g n k) = let f : a ≤ c = omega arith in InOrder.next f n k
+
+-- up to a later offset
+later : {s : List ℕ} {a b c : ℕ} {ns : List Ranged} → InOrder s a ns b → b ≤ c → InOrder s a ns c
+later (InOrder.none g) h = no-more (omega arith)
+later (InOrder.next g n k) h = InOrder.next g n (later k h)
+
+-- others after them
+append : {s : List ℕ} {a b c : ℕ} {ns ms : List Ranged} → InOrder s a ns b → InOrder s b ms c → InOrder s a (ns ++ ms) c
+append (InOrder.none g) h = earlier g h
+append (InOrder.next g n k) h = InOrder.next g n (append k h)
+
+single : {s : List ℕ} {a c b : ℕ} {n : Number} {low high : ℕ} → a ≤ c → NumberAt s c n b → InOrder s a (ranged n low high ∷ []) b
+single {b} h n = let f : b ≤ b = omega arith in InOrder.next h n (InOrder.none f)
+
+-- ---- the numbers of items
+
+numbers-join : (xs ys : Items) → numbers (join xs ys) ≡ numbers xs ++ numbers ys
+unfolding numbers join
+numbers-join Items.none ys = refl
+numbers-join (Items.field r k xs) ys = rw (numbers-join xs ys) (sym (append-assoc (repeatNumbers r ++ fieldNumbers k) (numbers xs) (numbers ys)))
+numbers-join (Items.group r inside xs) ys = rw (numbers-join xs ys) (sym (append-assoc (repeatNumbers r ++ numbers inside) (numbers xs) (numbers ys)))
+numbers-join (Items.X n xs) ys = ap (counted n ∷_) (numbers-join xs ys)
+numbers-join (Items.T n xs) ys = ap (counted n ∷_) (numbers-join xs ys)
+numbers-join (Items.slash r xs) ys = rw (numbers-join xs ys) (sym (append-assoc (repeatNumbers r) (numbers xs) (numbers ys)))
+numbers-join (Items.literal cs xs) ys = numbers-join xs ys
+
+-- ---- the numbers of what is spelt
+
+of-repeat : {s : List ℕ} {a b : ℕ} {r : Repeat} → RepeatAt s a r b → InOrder s a (repeatNumbers r) b
+of-repeat RepeatAt.absent = no-more (omega arith)
+of-repeat (RepeatAt.given n) = single (omega arith) n
+
+of-field : {s : List ℕ} {a b : ℕ} {k : Field Number} → FieldAt s a k b → InOrder s a (fieldNumbers k) b
+of-field (FieldAt.I at w) = single (omega arith) w
+of-field (FieldAt.F at w p d) = append (single (omega arith) w) (single (omega arith) d)
+of-field (FieldAt.L at w) = single (omega arith) w
+of-field (FieldAt.A at) = no-more (omega arith)
+of-field (FieldAt.Aw at w) = single (omega arith) w
+
+spelt : {s : List ℕ} {k : Sort} {l a b : ℕ} {x : Items} → Spells s k l a x b → InOrder s a (numbers x) b
+unfolding numbers
+spelt (Spells.field rep k) = append (append (of-repeat rep) (of-field k)) (no-more (omega arith))
+spelt (Spells.group rep opens seq closes) = append (append (of-repeat rep) (earlier (omega arith) (spelt seq))) (no-more (omega arith))
+spelt (Spells.X n at) = later (single (omega arith) n) (omega arith)
+spelt (Spells.T at n) = single (omega arith) n
+spelt (Spells.slash rep at) = append (of-repeat rep) (no-more (omega arith))
+spelt (Spells.literal lit) = no-more (omega arith)
+spelt (Spells.one item) = spelt item
+spelt (Spells.more {xs = ys} {x = y} seq here item) = rw (numbers-join ys y) (append (spelt seq) (earlier (omega arith) (spelt item)))
+
+pub numbers-in-order : NumbersInOrder
+numbers-in-order s xs f = earlier (omega arith) (later (spelt (f .items)) (omega arith))
