@@ -8,9 +8,9 @@ use native.Mathlib.Omega.{arith}
 use borrow.Author.Tests.{ne-eqb}
 use lib.ListN.{getD}
 use Rattle.buffer.specs.Characters.{decimalPoint}
-use Rattle.format_grammar.specs.Characters.{letterI, letterF, letterL, letterA, openingBracket, letterX, letterT, solidus, closingBracket, comma}
+use Rattle.format_grammar.specs.Characters.{letterI, letterF, letterL, letterA, openingBracket, letterX, letterT, slashSign, closingBracket, comma}
 use Rattle.format_grammar.specs.Items.{Number, Repeat, Field, Items, join}
-use Rattle.format_grammar.specs.Grammar.{RepeatAt, FieldAt, Sort, Spells, Format}
+use Rattle.format_grammar.specs.Grammar.{RepeatAt, FieldAt, Nonterminal, Derives, Format}
 use Rattle.format_grammar.specs.Reading.{Use, Mode, Open, State, Reading, step, stepWithin, wanted, begun, close, readAt, reading}
 use Rattle.format_grammar.proofs.ItemLaws.{join-assoc, join-none}
 use Rattle.format_grammar.proofs.ReadLaws.{read-byte, read-same, read-end, step-used}
@@ -58,30 +58,30 @@ open-begun : (r : Repeat) (at l : ℕ) (xs : Items) (q : Open) → begun r at (l
 open-begun r at l xs q = rw (ne-eqb (l + 1) 0 (λ z. omega arith), add-sub-cancel l 1)
 
 -- what spells items leads from where an item may begin to where one has ended
-read-spells : {s : List ℕ} {k : Sort} {l a b : ℕ} {x : Items} → Spells s k l a x b → Follows s b → (xs : Items) (q : Open)
+read-derived : {s : List ℕ} {k : Nonterminal} {l a b : ℕ} {x : Items} → Derives s k l a x b → Follows s b → (xs : Items) (q : Open)
     → readAt s a (State.within (wanted a) l xs q) ≡ readAt s b (State.within Mode.after l (join xs x) q)
-read-spells (Spells.field {l} rep k) f xs q = read-field rep k f l xs q
-read-spells (Spells.group {l} {b} {c} {r} {xs = ys} rep opens seq closes) f xs q =
+read-derived (Derives.field {l} rep k) f xs q = read-field rep k f l xs q
+read-derived (Derives.group {l} {b} {c} {r} {xs = ys} rep opens seq closes) f xs q =
     read-repeat rep (l + 1) xs q openingBracket (State.within (wanted (b + 1)) l Items.none (Open.group xs r q)) opens refl (open-begun r b l xs q) (λ x y. refl)
-    ∙ read-spells seq (follows closes refl refl refl) Items.none (Open.group xs r q)
+    ∙ read-derived seq (follows closes refl refl refl) Items.none (Open.group xs r q)
     ∙ rw (join-none ys) (read-byte (State.within Mode.after l ys (Open.group xs r q)) (close l ys (Open.group xs r q)) closes (step-close c l ys (Open.group xs r q)) (λ x y. refl))
-read-spells (Spells.X {l} {n} num at) f xs q = read-after num Use.start l xs q letterX (State.within Mode.after l (join xs (Items.X n Items.none)) q) at refl refl (λ x y. refl)
-read-spells (Spells.T {l} {a} at num) f xs q =
+read-derived (Derives.X {l} {n} num at) f xs q = read-after num Use.start l xs q letterX (State.within Mode.after l (join xs (Items.X n Items.none)) q) at refl refl (λ x y. refl)
+read-derived (Derives.T {l} {a} at num) f xs q =
     read-repeat RepeatAt.absent l xs q letterT (State.within (Mode.digits Use.column (a + 1) 0) l xs q) at refl refl (λ x y. refl)
     ∙ read-ended num f Use.column l xs _ q (λ c. refl)
-read-spells (Spells.slash {l} {r} rep at) f xs q = read-repeat rep l xs q solidus (State.within Mode.after l (join xs (Items.slash r Items.none)) q) at refl refl (λ x y. refl)
-read-spells (Spells.literal {l} lit) f xs q = read-literal lit f l xs q
-read-spells (Spells.one item) f xs q = read-spells item f xs q
-read-spells (Spells.more {l} {b} {xs = ys} {x = y} seq here item) f xs q =
-    read-spells seq (follows here refl refl refl) xs q
+read-derived (Derives.slash {l} {r} rep at) f xs q = read-repeat rep l xs q slashSign (State.within Mode.after l (join xs (Items.slash r Items.none)) q) at refl refl (λ x y. refl)
+read-derived (Derives.literal {l} lit) f xs q = read-literal lit f l xs q
+read-derived (Derives.one item) f xs q = read-derived item f xs q
+read-derived (Derives.more {l} {b} {xs = ys} {x = y} seq here item) f xs q =
+    read-derived seq (follows here refl refl refl) xs q
     ∙ read-byte (State.within Mode.after l (join xs ys) q) (State.within (wanted (b + 1)) l (join xs ys) q) here (step-comma b l (join xs ys) q) (λ x y. refl)
-    ∙ read-spells item f (join xs ys) q
+    ∙ read-derived item f (join xs ys) q
     ∙ rw (join-assoc xs ys y)
 
 pub complete : {s : List ℕ} {xs : Items} → Format s xs → reading s ≡ Reading.items xs
 unfolding reading step
 complete {s} {xs} h =
     read-byte State.begin (State.within (wanted 1) 4 Items.none Open.format) (h .opens) refl (λ x y. refl)
-    ∙ read-spells (h .items) (follows (h .closes) refl refl refl) Items.none Open.format
+    ∙ read-derived (h .items) (follows (h .closes) refl refl refl) Items.none Open.format
     ∙ rw (join-none xs) (read-byte (State.within Mode.after 4 xs Open.format) (State.end xs) (h .closes) (step-close (h .end) 4 xs Open.format) (λ x y. refl))
     ∙ read-end s (h .end + 1) (State.end xs) (omega arith)

@@ -10,7 +10,7 @@ use native.Mathlib.Decide.{decLt}
 use lib.Dec.{eqb}
 use Rattle.buffer.specs.Characters.{decimalPoint}
 use Rattle.number.specs.Digits.{isDigit}
-use Rattle.format_grammar.specs.Characters.{openingBracket, solidus, closingBracket}
+use Rattle.format_grammar.specs.Characters.{openingBracket, slashSign, closingBracket}
 use Rattle.format_grammar.specs.Items.{Number, number, Repeat, Field, Items, join}
 use Rattle.format_grammar.specs.Grammar.{Mark}
 use Rattle.format_grammar.specs.Reading.{Use, Mode, Open, State, Reading, step, stepWithin, used, written, close, unlessDead, isEmpty, readFrom}
@@ -71,7 +71,7 @@ last-ends l xs q u x does =
 
 used-ends : {s : List ℕ} {a o : ℕ} {u : Use} → UsedAt s a u o → (l : ℕ) (xs : Items) (q : Open) (v at : ℕ) → o ≤ at → Ends at (State.within (Mode.digits u o v) l xs q)
 used-ends (UsedAt.start {a}) l xs q v at h =
-    ends-by at _ solidus (State.within Mode.after l (join xs (Items.slash (written a at v) Items.none)) q) (step-used Use.start a v at l xs q solidus (not-digit at a solidus refl)) (λ x y. refl) (after-ends (at + 1) l _ q)
+    ends-by at _ slashSign (State.within Mode.after l (join xs (Items.slash (written a at v) Items.none)) q) (step-used Use.start a v at l xs q slashSign (not-digit at a slashSign refl)) (λ x y. refl) (after-ends (at + 1) l _ q)
 used-ends (UsedAt.widthI {b} {r} rep k) l xs q v at h = last-ends l xs q (Use.widthI r) (λ n. Items.field r (Field.I n) Items.none) (λ n i. refl) (b + 1) v at h
 used-ends (UsedAt.widthF {b} {r} rep k) l xs q v at h =
     number-ends l xs q (Use.widthF r) decimalPoint (λ n i. State.within (Mode.digits (Use.places r n) (i + 1) 0) l xs q) refl (λ n i. refl) (λ n i x y. refl)
@@ -103,7 +103,7 @@ mark-ends m mk cs at l xs q =
 
 pub state-ends : {s : List ℕ} {at : ℕ} {st : State} → Reached s at st → (st ≡ State.dead → ⊥) → Ends at st
 unfolding readFrom step stepWithin
-state-ends Reached.begin h = record { text = openingBracket ∷ solidus ∷ closingBracket ∷ []; items = _; ends = refl }
+state-ends Reached.begin h = record { text = openingBracket ∷ slashSign ∷ closingBracket ∷ []; items = _; ends = refl }
 state-ends (Reached.digits {v} {l} {at} {xs} {q} g u d) h = used-ends u l xs q v at (d .low)
 state-ends (Reached.inside {m} {l} {at} {cs} {xs} {q} g k) h =
     ends-by at _ m (State.within (Mode.mark m cs) l xs q) (step-mark m cs at l xs q) (λ a b. refl) (mark-ends m (k .mark) cs (at + 1) l xs q)

@@ -78,13 +78,12 @@ pub step-behind : (m : ℕ) (cs : List ℕ) (at l : ℕ) (xs : Items) (q : Open)
 unfolding step stepWithin
 step-behind m cs at l xs q b e f = rw (e, f)
 
-pub read-literal : {s : List ℕ} {a b : ℕ} {cs : List ℕ} → LiteralAt s a cs b → Follows s b → (l : ℕ) (xs : Items) (q : Open)
-    → readAt s a (State.within (wanted a) l xs q) ≡ readAt s b (State.within Mode.after l (join xs (Items.literal cs Items.none)) q)
-read-literal {s} {a} {b} {cs} h f l xs q =
+pub read-literal : {s : List ℕ} {a c : ℕ} {cs : List ℕ} → LiteralAt s a cs c → Follows s (c + 1) → (l : ℕ) (xs : Items) (q : Open)
+    → readAt s a (State.within (wanted a) l xs q) ≡ readAt s (c + 1) (State.within Mode.after l (join xs (Items.literal cs Items.none)) q)
+read-literal {s} {a} {c} {cs} h f l xs q =
     let m : ℕ = h .m in
-    let e : b - 1 + 1 ≡ b = omega arith in
     one-byte s a l xs q (wanted a) (Mode.inside m []) m (h .opens .within) (h .opens .is) (step-open m a l xs q (h .mark))
-    ∙ read-characters s m (b - 1) l xs q (omega arith) cs [] (a + 1) (omega arith) (h .between) (h .printable)
-    ∙ one-byte s (b - 1) l xs q (Mode.inside m cs) (Mode.mark m cs) m (h .closes .within) (h .closes .is) (step-mark m cs (b - 1) l xs q)
-    ∙ rw e (read-same s b (State.within (Mode.mark m cs) l xs q) (State.within Mode.after l (join xs (Items.literal cs Items.none)) q)
-    (λ z. step-behind m cs b l xs q (getD s b 0) (f .no-mark m (h .mark)) (not-empty cs (h .some))) refl)
+    ∙ read-characters s m c l xs q (omega arith) cs [] (a + 1) (omega arith) (h .between) (h .printable)
+    ∙ one-byte s c l xs q (Mode.inside m cs) (Mode.mark m cs) m (h .closes .within) (h .closes .is) (step-mark m cs c l xs q)
+    ∙ read-same s (c + 1) (State.within (Mode.mark m cs) l xs q) (State.within Mode.after l (join xs (Items.literal cs Items.none)) q)
+    (λ z. step-behind m cs (c + 1) l xs q (getD s (c + 1) 0) (f .no-mark m (h .mark)) (not-empty cs (h .some))) refl

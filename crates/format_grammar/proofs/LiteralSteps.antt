@@ -77,16 +77,6 @@ some-character [] e = absurd (false≢true (sym e))
 some-character (c ∷ cs) e = omega arith
 
 -- the closing mark
-pub literal-at : {s : List ℕ} {a m b : ℕ} {cs : List ℕ} → InsideAt s a m cs b → At s b m → isEmpty cs ≡ false → LiteralAt s a cs (b + 1)
-literal-at {s} {a} {m} {b} {cs} k here e =
-    let z : b + 1 - 1 ≡ b = omega arith in
-    record {
-      m = m;
-      mark = k .mark;
-      opens = k .opens;
-      between = rw z (k .between);
-      closes = rw z here;
-      longer = omega arith;
-      printable = k .printable;
-      some = some-character cs e;
-    }
+pub literal-at : {s : List ℕ} {a m c : ℕ} {cs : List ℕ} → InsideAt s a m cs c → At s c m → isEmpty cs ≡ false → LiteralAt s a cs c
+literal-at {s} {a} {m} {c} {cs} k here e =
+    record { m = m; mark = k .mark; opens = k .opens; between = k .between; closes = here; after = omega arith; printable = k .printable; some = some-character cs e }

@@ -5,8 +5,8 @@ use mathlib.Core.List.{List, [], _∷_, _++_, append-assoc}
 use Prim.Native.Nat.{ℕ, _≤_}
 use native.Mathlib.Omega.{arith}
 use Rattle.format_grammar.specs.Items.{Number, Repeat, Field, Items, join}
-use Rattle.format_grammar.specs.Grammar.{NumberAt, RepeatAt, FieldAt, Sort, Spells}
-use Rattle.format_grammar.specs.Ranges.{Ranged, ranged, counted, repeatNumbers, fieldNumbers, numbers}
+use Rattle.format_grammar.specs.Grammar.{NumberAt, RepeatAt, FieldAt, Nonterminal, Derives}
+use Rattle.format_grammar.specs.Ranges.{Ranged, ranged, rangeN, repeatNumbers, fieldNumbers, numbers}
 use Rattle.format_grammar.specs.Promises.{InOrder, NumbersInOrder}
 
 -- ---- numbers in order
@@ -39,8 +39,8 @@ unfolding numbers join
 numbers-join Items.none ys = refl
 numbers-join (Items.field r k xs) ys = rw (numbers-join xs ys) (sym (append-assoc (repeatNumbers r ++ fieldNumbers k) (numbers xs) (numbers ys)))
 numbers-join (Items.group r inside xs) ys = rw (numbers-join xs ys) (sym (append-assoc (repeatNumbers r ++ numbers inside) (numbers xs) (numbers ys)))
-numbers-join (Items.X n xs) ys = ap (counted n ∷_) (numbers-join xs ys)
-numbers-join (Items.T n xs) ys = ap (counted n ∷_) (numbers-join xs ys)
+numbers-join (Items.X n xs) ys = ap (rangeN n ∷_) (numbers-join xs ys)
+numbers-join (Items.T n xs) ys = ap (rangeN n ∷_) (numbers-join xs ys)
 numbers-join (Items.slash r xs) ys = rw (numbers-join xs ys) (sym (append-assoc (repeatNumbers r) (numbers xs) (numbers ys)))
 numbers-join (Items.literal cs xs) ys = numbers-join xs ys
 
@@ -57,16 +57,16 @@ of-field (FieldAt.L at w) = single (omega arith) w
 of-field (FieldAt.A at) = no-more (omega arith)
 of-field (FieldAt.Aw at w) = single (omega arith) w
 
-spelt : {s : List ℕ} {k : Sort} {l a b : ℕ} {x : Items} → Spells s k l a x b → InOrder s a (numbers x) b
+spelt : {s : List ℕ} {k : Nonterminal} {l a b : ℕ} {x : Items} → Derives s k l a x b → InOrder s a (numbers x) b
 unfolding numbers
-spelt (Spells.field rep k) = append (append (of-repeat rep) (of-field k)) (no-more (omega arith))
-spelt (Spells.group rep opens seq closes) = append (append (of-repeat rep) (earlier (omega arith) (spelt seq))) (no-more (omega arith))
-spelt (Spells.X n at) = later (single (omega arith) n) (omega arith)
-spelt (Spells.T at n) = single (omega arith) n
-spelt (Spells.slash rep at) = append (of-repeat rep) (no-more (omega arith))
-spelt (Spells.literal lit) = no-more (omega arith)
-spelt (Spells.one item) = spelt item
-spelt (Spells.more {xs = ys} {x = y} seq here item) = rw (numbers-join ys y) (append (spelt seq) (earlier (omega arith) (spelt item)))
+spelt (Derives.field rep k) = append (append (of-repeat rep) (of-field k)) (no-more (omega arith))
+spelt (Derives.group rep opens seq closes) = append (append (of-repeat rep) (earlier (omega arith) (spelt seq))) (no-more (omega arith))
+spelt (Derives.X n at) = later (single (omega arith) n) (omega arith)
+spelt (Derives.T at n) = single (omega arith) n
+spelt (Derives.slash rep at) = append (of-repeat rep) (no-more (omega arith))
+spelt (Derives.literal lit) = no-more (omega arith)
+spelt (Derives.one item) = spelt item
+spelt (Derives.more {xs = ys} {x = y} seq here item) = rw (numbers-join ys y) (append (spelt seq) (earlier (omega arith) (spelt item)))
 
 pub numbers-in-order : NumbersInOrder
 numbers-in-order s xs f = earlier (omega arith) (later (spelt (f .items)) (omega arith))

@@ -81,7 +81,7 @@ shares s p k =
     let t : List ℕ = take p s ++ more .text in
     let n : length (take p s) ≡ p = length-take-le p s (k .within) in
     let up : reading t ≡ readAt t p (k .state) = k .leads t (rw (length-append (take p s) (more .text)) (omega arith)) (take-at (take p s) (more .text) p n) in
-    record { rest = more .text; reading = more .items; format = sound t (more .items) (up ∙ rw (drop-at (take p s) (more .text) p n) (more .ends)) }
+    record { rest = more .text; read = more .items; format = sound t (more .items) (up ∙ rw (drop-at (take p s) (more .text) p n) (more .ends)) }
 
 -- and no grammatical text shares the next byte
 no-longer : (s : List ℕ) (p : ℕ) → Stopped s p → (n : ℕ) → p < n → n ≤ length s → Begins (take n s) → ⊥

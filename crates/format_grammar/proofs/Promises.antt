@@ -1,6 +1,6 @@
 -- The theorems on formats that specs/Promises.antt states.
 -- Assumes nothing.
-use mathlib.Core.Path.{_≡_, refl, _∙_}
+use mathlib.Core.Path.{_≡_, refl, _∙_, subst}
 use mathlib.Core.Bool.{Bool, true, false, cond}
 use mathlib.Core.List.{List}
 use Prim.Native.Nat.{ℕ, _<_, _≤_}
@@ -13,9 +13,10 @@ use Rattle.format_grammar.specs.Grammar.{Format}
 use Rattle.format_grammar.specs.Ranges.{numbers, FirstOutside, nowhere, at, firstOutside}
 use Rattle.format_grammar.specs.Size.{size, largestSize}
 use Rattle.format_grammar.specs.Reading.{Reading, items, wrong, reading}
-use Rattle.format_grammar.specs.Check.{longestFormat, Outcome, accepted, refused, checkSize, checkRange, checkGrammar, outcome}
+use Rattle.format_grammar.specs.Check.{longestFormat, Outcome, accepted, refused, checkSize, checkRange, checkGrammar, outcome, refusalNumber, refusalPlace, outcomeNumber, outcomePlace}
+use Rattle.format_grammar.specs.declared.FormatRefusal.{FormatRefusal}
 use Rattle.format_grammar.specs.declared.FormatRefusal.the-variants.{Length, Grammar, Range, Size}
-use Rattle.format_grammar.specs.Promises.{Acceptable, NotGrammatical, OutOfRange, TooLarge, AllWithin, AcceptsExactly, OneReading, LengthRefused, GrammarRefused, RangeRefused, SizeRefused, NumbersInOrder, MetIsSize, ReturnPartIs, ReturnIndexIs}
+use Rattle.format_grammar.specs.Promises.{Answers, Acceptable, TooLong, NotGrammatical, OutOfRange, TooLarge, AllWithin, Verdict, AcceptsExactly, OneReading, LengthRefused, GrammarRefused, RangeRefused, SizeRefused, AlwaysAnswered, NumbersInOrder, MetIsSize, ReturnPartIs, ReturnIndexIs}
 use Rattle.format_grammar.proofs.Complete.{complete}
 use Rattle.format_grammar.proofs.Sound.{sound}
 use Rattle.format_grammar.proofs.Place.{place-is, one-place}
@@ -41,10 +42,10 @@ return-index-is = MetLaws.return-index-is
 -- ---- what the outcome says of the text
 
 pub data Said (s : List ℕ) : Outcome → Type 0 where
-  too-long : longestFormat < length s → Said s (refused Length)
+  too-long : TooLong s 1024 → Said s (refused Length)
   not-grammatical : {p : ℕ} → NotGrammatical s p → Said s (refused (Grammar p))
   out-of-range : {p : ℕ} → OutOfRange s p → Said s (refused (Range p))
-  too-large : TooLarge s → Said s (refused Size)
+  too-large : TooLarge s 0 → Said s (refused Size)
   acceptable : {xs : Items} → Acceptable s xs → Said s (accepted xs)
 
 wrong-items : (s : List ℕ) (p : ℕ) (xs : Items) → reading s ≡ wrong p → Format s xs → ⊥
@@ -54,7 +55,7 @@ said-size : (s : List ℕ) (xs : Items) → length s ≤ longestFormat → Forma
 said-size s xs h f r = go (ltb largestSize (size xs)) refl
   where
     go : (t : Bool) → ltb largestSize (size xs) ≡ t → Said s (cond t (refused Size) (accepted xs))
-    go true e = Said.too-large (record { short = h; reading = xs; format = f; ranges = r; large = ltb-true largestSize (size xs) e })
+    go true e = Said.too-large (record { short = h; read = xs; format = f; ranges = r; large = ltb-true largestSize (size xs) e; place-is = refl })
     go false e = Said.acceptable (record { short = h; format = f; ranges = r; small = ltb-false largestSize (size xs) e })
 
 said-range : (s : List ℕ) (xs : Items) → length s ≤ longestFormat → Format s xs → Said s (checkRange (firstOutside (numbers xs)) xs)
@@ -62,13 +63,13 @@ said-range s xs h f = go (firstOutside (numbers xs)) refl
   where
     go : (o : FirstOutside) → firstOutside (numbers xs) ≡ o → Said s (checkRange o xs)
     go nowhere e = said-size s xs h f (nowhere-all (numbers xs) e)
-    go (at p) e = Said.out-of-range (record { short = h; reading = xs; format = f; first = at-first (numbers xs) p e })
+    go (at p) e = Said.out-of-range (record { short = h; read = xs; format = f; place-is = at-first (numbers xs) p e })
 
 said-grammar : (s : List ℕ) → length s ≤ longestFormat → Said s (checkGrammar (reading s))
 said-grammar s h = go (reading s) refl
   where
     go : (o : Reading) → reading s ≡ o → Said s (checkGrammar o)
-    go (wrong p) e = Said.not-grammatical (record { short = h; no-reading = λ xs. wrong-items s p xs e; place-is = place-is s p e })
+    go (wrong p) e = Said.not-grammatical (record { short = h; not-format = λ xs. wrong-items s p xs e; place-is = place-is s p e })
     go (items xs) e = said-range s xs h (sound s xs e)
 
 pub said : (s : List ℕ) → Said s (outcome s)
@@ -76,7 +77,7 @@ unfolding outcome
 said s = go (ltb longestFormat (length s)) refl
   where
     go : (t : Bool) → ltb longestFormat (length s) ≡ t → Said s (cond t (refused Length) (checkGrammar (reading s)))
-    go true e = Said.too-long (ltb-true longestFormat (length s) e)
+    go true e = Said.too-long (record { long = ltb-true longestFormat (length s) e; place-is = refl })
     go false e = said-grammar s (ltb-false longestFormat (length s) e)
 
 -- ---- the outcome, from what is known of the text
@@ -91,39 +92,57 @@ outcome-read s xs h f = outcome-short s h ∙ rw (complete f)
 outcome-ranged : (s : List ℕ) (xs : Items) → length s ≤ longestFormat → Format s xs → AllWithin (numbers xs) → outcome s ≡ checkSize xs
 outcome-ranged s xs h f r = outcome-read s xs h f ∙ rw (all-nowhere (numbers xs) r)
 
--- ---- the rows
-
-pub length-refused : LengthRefused
-unfolding outcome
-length-refused s = (λ e. go (rw e at (said s)), λ h. rw (lt-ltb longestFormat (length s) h))
+pub always-answered : AlwaysAnswered
+always-answered s = go (said s)
   where
-    go : Said s (refused Length) → longestFormat < length s
-    go (Said.too-long h) = h
+    go : {o : Outcome} → Said s o → Verdict s (outcomeNumber o) (outcomePlace o)
+    go (Said.too-long h) = Verdict.too-long h
+    go (Said.not-grammatical h) = Verdict.not-grammatical h
+    go (Said.out-of-range h) = Verdict.out-of-range h
+    go (Said.too-large h) = Verdict.too-large h
+    go (Said.acceptable h) = Verdict.acceptable h
 
-pub grammar-refused : GrammarRefused
-grammar-refused s p = (λ e. go (rw e at (said s)), λ h. outcome-short s (h .short) ∙ back h (reading s) refl)
-  where
-    go : {p : ℕ} → Said s (refused (Grammar p)) → NotGrammatical s p
-    go (Said.not-grammatical h) = h
-
-    back : NotGrammatical s p → (o : Reading) → reading s ≡ o → checkGrammar (reading s) ≡ refused (Grammar p)
-    back h (items xs) e = absurd (h .no-reading xs (sound s xs e))
-    back h (wrong q) e = rw (e, one-place s q p (place-is s q e) (h .place-is))
-
-pub range-refused : RangeRefused
-range-refused s p = (λ e. go (rw e at (said s)), λ h. outcome-read s (h .reading) (h .short) (h .format) ∙ rw (first-at (numbers (h .reading)) p (h .first)))
-  where
-    go : {p : ℕ} → Said s (refused (Range p)) → OutOfRange s p
-    go (Said.out-of-range h) = h
-
-pub size-refused : SizeRefused
-size-refused s = (λ e. go (rw e at (said s)), λ h. outcome-ranged s (h .reading) (h .short) (h .format) (h .ranges) ∙ rw (lt-ltb largestSize (size (h .reading)) (h .large)))
-  where
-    go : Said s (refused Size) → TooLarge s
-    go (Said.too-large h) = h
+-- ---- the rows: a verdict by its number
 
 pub accepts-exactly : AcceptsExactly
 accepts-exactly s xs = (λ e. go (rw e at (said s)), λ h. outcome-ranged s xs (h .short) (h .format) (h .ranges) ∙ rw (le-ltb largestSize (size xs) (h .small)))
   where
     go : {xs : Items} → Said s (accepted xs) → Acceptable s xs
     go (Said.acceptable h) = h
+
+answered : (s : List ℕ) (n p : ℕ) → Answers s n p → Verdict s n p
+answered s n p a = subst (λ (q : ℕ). Verdict s n q) (a .place-is) (subst (λ (m : ℕ). Verdict s m (outcomePlace (outcome s))) (a .number-is) (always-answered s))
+
+answers : (s : List ℕ) (w : FormatRefusal) → outcome s ≡ refused w → Answers s (refusalNumber w) (refusalPlace w)
+answers s w e = record { number-is = rw e; place-is = rw e }
+
+pub length-refused : LengthRefused
+unfolding outcome
+length-refused s p = (λ a. go (answered s 2 p a), λ h. rw (h .place-is) (answers s Length (rw (lt-ltb longestFormat (length s) (h .long)))))
+  where
+    go : Verdict s 2 p → TooLong s p
+    go (Verdict.too-long h) = h
+
+pub grammar-refused : GrammarRefused
+grammar-refused s p = (λ a. go (answered s 3 p a), λ h. answers s (Grammar p) (outcome-short s (h .short) ∙ back h (reading s) refl))
+  where
+    go : Verdict s 3 p → NotGrammatical s p
+    go (Verdict.not-grammatical h) = h
+
+    back : NotGrammatical s p → (o : Reading) → reading s ≡ o → checkGrammar (reading s) ≡ refused (Grammar p)
+    back h (items xs) e = absurd (h .not-format xs (sound s xs e))
+    back h (wrong q) e = rw (e, one-place s q p (place-is s q e) (h .place-is))
+
+pub range-refused : RangeRefused
+range-refused s p =
+    (λ a. go (answered s 4 p a), λ h. answers s (Range p) (outcome-read s (h .read) (h .short) (h .format) ∙ rw (first-at (numbers (h .read)) p (h .place-is))))
+  where
+    go : Verdict s 4 p → OutOfRange s p
+    go (Verdict.out-of-range h) = h
+
+pub size-refused : SizeRefused
+size-refused s p =
+    (λ a. go (answered s 5 p a), λ h. rw (h .place-is) (answers s Size (outcome-ranged s (h .read) (h .short) (h .format) (h .ranges) ∙ rw (lt-ltb largestSize (size (h .read)) (h .large)))))
+  where
+    go : Verdict s 5 p → TooLarge s p
+    go (Verdict.too-large h) = h

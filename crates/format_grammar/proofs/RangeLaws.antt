@@ -9,7 +9,7 @@ use borrow.Author.Tests.{ltb-false, le-ltb}
 use lib.Dec.{ltb}
 use Rattle.format_grammar.specs.Items.{valueOf}
 use Rattle.format_grammar.specs.Ranges.{Ranged, ranged, outside, place, nowhere, at, firstOutside}
-use Rattle.format_grammar.specs.Promises.{Within, AllWithin, FirstOut}
+use Rattle.format_grammar.specs.Promises.{Within, AllWithin, FirstOutsideAt}
 
 -- ---- one number
 
@@ -58,12 +58,12 @@ nowhere-all (n ∷ ns) e = go (outside n) refl (nowhere-all ns)
     go true f r = let k = first-here n ns f in let z : _≡_ {A = ℕ} 0 1 = cc in absurd (omega arith)
     go false f r = (inside-within n f, r (sym (first-later n ns f) ∙ e))
 
-pub at-first : (ns : List Ranged) (p : ℕ) → firstOutside ns ≡ at p → FirstOut ns p
+pub at-first : (ns : List Ranged) (p : ℕ) → firstOutside ns ≡ at p → FirstOutsideAt ns p
 unfolding firstOutside
 at-first [] p e = let z : _≡_ {A = ℕ} 0 1 = cc in absurd (omega arith)
 at-first (n ∷ ns) p e = go (outside n) refl (at-first ns p)
   where
-    go : (t : Bool) → outside n ≡ t → (firstOutside ns ≡ at p → FirstOut ns p) → FirstOut (n ∷ ns) p
+    go : (t : Bool) → outside n ≡ t → (firstOutside ns ≡ at p → FirstOutsideAt ns p) → FirstOutsideAt (n ∷ ns) p
     go true f r =
         let k = first-here n ns f in
         let z : place n ≡ p = cc in
@@ -76,5 +76,5 @@ first-past : (before : List Ranged) (n : Ranged) (after : List Ranged) → AllWi
 first-past [] n after h out = first-here n after (not-outside n out)
 first-past (b ∷ before) n after h out = first-later b _ (within-inside b (h .0)) ∙ first-past before n after (h .1) out
 
-pub first-at : (ns : List Ranged) (p : ℕ) → FirstOut ns p → firstOutside ns ≡ at p
+pub first-at : (ns : List Ranged) (p : ℕ) → FirstOutsideAt ns p → firstOutside ns ≡ at p
 first-at ns p h = rw (h .split) (first-past (h .before) (h .n) (h .after) (h .fine) (h .out) ∙ ap at (h .stands))

@@ -8,13 +8,13 @@ use Rattle.buffer.specs.Characters.{decimalPoint}
 use Rattle.number.specs.Digits.{Digits, value}
 use Rattle.format_grammar.specs.Characters.{openingBracket, closingBracket, comma, letterA, letterF, letterI, letterL, letterT}
 use Rattle.format_grammar.specs.Items.{Number, Repeat, Items}
-use Rattle.format_grammar.specs.Grammar.{At, part, NumberAt, RepeatAt, Mark, Printable, doubled, Sort, Spells}
+use Rattle.format_grammar.specs.Grammar.{At, part, NumberAt, RepeatAt, Mark, Printable, doubled, Nonterminal, Derives}
 use Rattle.format_grammar.specs.Reading.{Use, Mode, Open, State}
 
 -- what stands in a bracket where an item may begin: nothing, or items and a comma
 pub data Before (s : List ℕ) (l : ℕ) : ℕ → Items → ℕ → Type 0 where
   none : {a : ℕ} → Before s l a Items.none a
-  some : {a b : ℕ} {xs : Items} → Spells s Sort.items l a xs b → At s b comma → Before s l a xs (b + 1)
+  some : {a b : ℕ} {xs : Items} → Derives s Nonterminal.items l a xs b → At s b comma → Before s l a xs (b + 1)
 
 -- the innermost open bracket stands directly before an offset
 pub data Bracket (s : List ℕ) : ℕ → ℕ → Open → Type 0 where
@@ -60,6 +60,6 @@ pub data Reached (s : List ℕ) : ℕ → State → Type 0 where
       → Reached s at (State.within (Mode.digits u o v) l xs q)
   inside : {m l a at : ℕ} {cs : List ℕ} {xs : Items} {q : Open} → Begun s l xs q a → InsideAt s a m cs at → Reached s at (State.within (Mode.inside m cs) l xs q)
   mark : {m l a b : ℕ} {cs : List ℕ} {xs : Items} {q : Open} → Begun s l xs q a → InsideAt s a m cs b → At s b m → Reached s (b + 1) (State.within (Mode.mark m cs) l xs q)
-  after : {l a at : ℕ} {xs : Items} {q : Open} → Bracket s l a q → Spells s Sort.items l a xs at → Reached s at (State.within Mode.after l xs q)
-  end : {b : ℕ} {xs : Items} → At s 0 openingBracket → Spells s Sort.items 4 1 xs b → At s b closingBracket → Reached s (b + 1) (State.end xs)
+  after : {l a at : ℕ} {xs : Items} {q : Open} → Bracket s l a q → Derives s Nonterminal.items l a xs at → Reached s at (State.within Mode.after l xs q)
+  end : {b : ℕ} {xs : Items} → At s 0 openingBracket → Derives s Nonterminal.items 4 1 xs b → At s b closingBracket → Reached s (b + 1) (State.end xs)
   dead : {at : ℕ} → Reached s at State.dead

@@ -12,9 +12,9 @@ use lib.ListN.{length, getD}
 use Rattle.buffer.specs.Characters.{decimalPoint}
 use Rattle.number.specs.Digits.{isDigit}
 use Rattle.number.proofs.DigitLaws.{value-none, digit-bounds}
-use Rattle.format_grammar.specs.Characters.{letterI, letterF, letterL, letterA, openingBracket, letterX, letterT, solidus, apostrophe, quotationMark, closingBracket, comma}
+use Rattle.format_grammar.specs.Characters.{letterI, letterF, letterL, letterA, openingBracket, letterX, letterT, slashSign, apostrophe, quotationMark, closingBracket, comma}
 use Rattle.format_grammar.specs.Items.{number, Repeat, Items, join}
-use Rattle.format_grammar.specs.Grammar.{At, NumberAt, RepeatAt, FieldAt, Mark, doubled, Sort, Spells}
+use Rattle.format_grammar.specs.Grammar.{At, NumberAt, RepeatAt, FieldAt, Mark, doubled, Nonterminal, Derives}
 use Rattle.format_grammar.specs.Reading.{Use, Mode, Open, State, step, stepWithin, written, separated, onlyAbsent, skipped, opened, begun, pointed, used, close, isEmpty}
 use Rattle.format_grammar.proofs.PartLaws.{part-none, value-more, digits-more}
 use Rattle.format_grammar.proofs.Cases.{pick-cases, and-true}
@@ -55,31 +55,31 @@ written-at {s} {o} {v} {at} d = go (eqb at o) refl
 -- ---- items and brackets
 
 -- one more item in the bracket
-one-more : {s : List ℕ} {l a b c : ℕ} {xs x : Items} → Before s l a xs b → Spells s Sort.item l b x c → Spells s Sort.items l a (join xs x) c
+one-more : {s : List ℕ} {l a b c : ℕ} {xs x : Items} → Before s l a xs b → Derives s Nonterminal.item l b x c → Derives s Nonterminal.items l a (join xs x) c
 unfolding join
-one-more Before.none i = Spells.one i
-one-more (Before.some seq at) i = Spells.more seq at i
+one-more Before.none i = Derives.one i
+one-more (Before.some seq at) i = Derives.more seq at i
 
-item-after : {s : List ℕ} {l a b : ℕ} {xs x : Items} {q : Open} → Begun s l xs q a → Spells s Sort.item l a x b → Reached s b (State.within Mode.after l (join xs x) q)
+item-after : {s : List ℕ} {l a b : ℕ} {xs x : Items} {q : Open} → Begun s l xs q a → Derives s Nonterminal.item l a x b → Reached s b (State.within Mode.after l (join xs x) q)
 item-after g i = Reached.after (g .bracket) (one-more (g .before) i)
 
 -- the bracket closes
-reached-close : {s : List ℕ} {l a at : ℕ} {xs : Items} {q : Open} → Bracket s l a q → Spells s Sort.items l a xs at → At s at closingBracket → Reached s (at + 1) (close l xs q)
+reached-close : {s : List ℕ} {l a at : ℕ} {xs : Items} {q : Open} → Bracket s l a q → Derives s Nonterminal.items l a xs at → At s at closingBracket → Reached s (at + 1) (close l xs q)
 reached-close (Bracket.format opens) seq closes = Reached.end opens seq closes
-reached-close (Bracket.group bracket before rep opens) seq closes = item-after (record { bracket-end = _; bracket = bracket; before = before }) (Spells.group rep opens seq closes)
+reached-close (Bracket.group bracket before rep opens) seq closes = item-after (record { bracket-end = _; bracket = bracket; before = before }) (Derives.group rep opens seq closes)
 
 -- a number may begin at the next offset
 number-next : {s : List ℕ} {l a at : ℕ} {u : Use} {xs : Items} {q : Open} → at < length s → Begun s l xs q a → UsedAt s a u (at + 1) → Reached s (at + 1) (State.within (Mode.digits u (at + 1) 0) l xs q)
 number-next {s} {at} h g u = Reached.digits g u (no-digits s (at + 1) (omega arith))
 
 -- the byte after an item
-reached-separated : {s : List ℕ} {l a at : ℕ} {xs : Items} {q : Open} → at < length s → Bracket s l a q → Spells s Sort.items l a xs at → Reached s (at + 1) (separated at l xs q (getD s at 0))
+reached-separated : {s : List ℕ} {l a at : ℕ} {xs : Items} {q : Open} → at < length s → Bracket s l a q → Derives s Nonterminal.items l a xs at → Reached s (at + 1) (separated at l xs q (getD s at 0))
 reached-separated {s} {l} {a} {at} {xs} {q} h bracket seq =
     pick-cases (λ st. Reached s (at + 1) st) (eqb (getD s at 0) comma) _ _
     (λ e. number-next h (record { bracket-end = a; bracket = bracket; before = Before.some seq (found comma h e) }) UsedAt.start)
     (λ _. pick-cases (λ st. Reached s (at + 1) st) (eqb (getD s at 0) closingBracket) _ _ (λ e. reached-close bracket seq (found closingBracket h e)) (λ _. Reached.dead))
 
-item-separated : {s : List ℕ} {l a at : ℕ} {xs x : Items} {q : Open} → at < length s → Begun s l xs q a → Spells s Sort.item l a x at → Reached s (at + 1) (separated at l (join xs x) q (getD s at 0))
+item-separated : {s : List ℕ} {l a at : ℕ} {xs x : Items} {q : Open} → at < length s → Begun s l xs q a → Derives s Nonterminal.item l a x at → Reached s (at + 1) (separated at l (join xs x) q (getD s at 0))
 item-separated h g i = reached-separated h (g .bracket) (one-more (g .before) i)
 
 -- ---- the byte after the number with which an item begins
@@ -101,7 +101,7 @@ reached-opened {s} {l} {a} {at} {r} {xs} {q} g rep here =
 
 reached-skipped : {s : List ℕ} {l a at : ℕ} {r : Repeat} {xs : Items} {q : Open} → Begun s l xs q a → RepeatAt s a r at → At s at letterX → Reached s (at + 1) (skipped r l xs q)
 reached-skipped g RepeatAt.absent here = Reached.dead
-reached-skipped g (RepeatAt.given n) here = item-after g (Spells.X n here)
+reached-skipped g (RepeatAt.given n) here = item-after g (Derives.X n here)
 
 reached-column : {s : List ℕ} {l a at : ℕ} {r : Repeat} {xs : Items} {q : Open} → Begun s l xs q a → RepeatAt s a r at → At s at letterT
     → Reached s (at + 1) (onlyAbsent r (State.within (Mode.digits Use.column (at + 1) 0) l xs q))
@@ -127,7 +127,7 @@ reached-begun {s} {l} {a} {at} {r} {xs} {q} h g rep =
     (λ _. pick-cases P (eqb b openingBracket) _ _ (λ e. reached-opened g rep (found openingBracket h e))
     (λ _. pick-cases P (eqb b letterX) _ _ (λ e. reached-skipped g rep (found letterX h e))
     (λ _. pick-cases P (eqb b letterT) _ _ (λ e. reached-column g rep (found letterT h e))
-    (λ _. pick-cases P (eqb b solidus) _ _ (λ e. item-after g (Spells.slash rep (found solidus h e)))
+    (λ _. pick-cases P (eqb b slashSign) _ _ (λ e. item-after g (Derives.slash rep (found slashSign h e)))
     (λ _. pick-cases P (eqb b apostrophe || eqb b quotationMark) _ _ (λ e. reached-marked g rep (is-mark b e) (record { within = h; is = refl }))
     (λ _. Reached.dead)))))))))
 
@@ -142,17 +142,17 @@ reached-used : {s : List ℕ} {l a at o : ℕ} {u : Use} {n : Repeat} {xs : Item
     → Reached s (at + 1) (used u n at l xs q (getD s at 0))
 reached-used h g UsedAt.start n = reached-begun h g n
 reached-used h g (UsedAt.widthI rep k) RepeatAt.absent = Reached.dead
-reached-used h g (UsedAt.widthI rep k) (RepeatAt.given w) = item-separated h g (Spells.field rep (FieldAt.I k w))
+reached-used h g (UsedAt.widthI rep k) (RepeatAt.given w) = item-separated h g (Derives.field rep (FieldAt.I k w))
 reached-used {s} {at} h g (UsedAt.widthF rep k) n =
     pick-cases (λ st. Reached s (at + 1) st) (eqb (getD s at 0) decimalPoint) _ _ (λ e. reached-pointed g rep k n (found decimalPoint h e)) (λ _. Reached.dead)
 reached-used h g (UsedAt.widthL rep k) RepeatAt.absent = Reached.dead
-reached-used h g (UsedAt.widthL rep k) (RepeatAt.given w) = item-separated h g (Spells.field rep (FieldAt.L k w))
-reached-used h g (UsedAt.widthA rep k) RepeatAt.absent = item-separated h g (Spells.field rep (FieldAt.A k))
-reached-used h g (UsedAt.widthA rep k) (RepeatAt.given w) = item-separated h g (Spells.field rep (FieldAt.Aw k w))
+reached-used h g (UsedAt.widthL rep k) (RepeatAt.given w) = item-separated h g (Derives.field rep (FieldAt.L k w))
+reached-used h g (UsedAt.widthA rep k) RepeatAt.absent = item-separated h g (Derives.field rep (FieldAt.A k))
+reached-used h g (UsedAt.widthA rep k) (RepeatAt.given w) = item-separated h g (Derives.field rep (FieldAt.Aw k w))
 reached-used h g (UsedAt.places rep k w p) RepeatAt.absent = Reached.dead
-reached-used h g (UsedAt.places rep k w p) (RepeatAt.given d) = item-separated h g (Spells.field rep (FieldAt.F k w p d))
+reached-used h g (UsedAt.places rep k w p) (RepeatAt.given d) = item-separated h g (Derives.field rep (FieldAt.F k w p d))
 reached-used h g (UsedAt.column k) RepeatAt.absent = Reached.dead
-reached-used h g (UsedAt.column k) (RepeatAt.given n) = item-separated h g (Spells.T k n)
+reached-used h g (UsedAt.column k) (RepeatAt.given n) = item-separated h g (Derives.T k n)
 
 -- ---- one byte
 
@@ -174,7 +174,7 @@ reached-step {s} h (Reached.inside {m} {at} {cs} g k) =
 reached-step {s} h (Reached.mark {m} {l} {a} {b} {cs} {xs} {q} g k here) =
     pick-cases (λ st. Reached s (b + 1 + 1) st) (eqb (getD s (b + 1) 0) m) _ _
     (λ e. rw (eqb-true (getD s (b + 1) 0) m e) (Reached.inside g (doubled-at k here (found m h e))))
-    (λ _. pick-cases (λ st. Reached s (b + 1 + 1) st) (isEmpty cs) _ _ (λ _. Reached.dead) (λ e. item-separated h g (Spells.literal (literal-at k here e))))
+    (λ _. pick-cases (λ st. Reached s (b + 1 + 1) st) (isEmpty cs) _ _ (λ _. Reached.dead) (λ e. item-separated h g (Derives.literal (literal-at k here e))))
 reached-step h (Reached.after bracket seq) = reached-separated h bracket seq
 reached-step h (Reached.end opens seq closes) = Reached.dead
 reached-step h Reached.dead = Reached.dead

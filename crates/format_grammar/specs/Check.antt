@@ -1,4 +1,5 @@
--- Document 01, 'Checks by place': rows 2 to 5, 'in this order'.
+-- Document 01, 'Checks by place': rows 2 to 5. 'The format check takes the format alone and applies rows 2 to 5', 'in this
+-- order': row 2 stands last here, since each row goes on with the one below it.
 -- Assumes nothing.
 use mathlib.Core.Bool.{cond}
 use mathlib.Core.List.{List}
@@ -29,7 +30,8 @@ abbrev pub checkRange : FirstOutside → Items → Outcome
 checkRange nowhere xs = checkSize xs
 checkRange (at p) xs = refused (Range p)
 
--- row 3: 'not of the grammar'
+-- row 3: 'not of the grammar'. (`reading` need not be believed: by the laws `AcceptsExactly` and `GrammarRefused` of
+-- `Promises` it reads exactly what the grammar derives.)
 abbrev pub checkGrammar : Reading → Outcome
 checkGrammar (wrong p) = refused (Grammar p)
 checkGrammar (items xs) = checkRange (firstOutside (numbers xs)) xs
@@ -38,7 +40,7 @@ checkGrammar (items xs) = checkRange (firstOutside (numbers xs)) xs
 unfoldable pub outcome : List ℕ → Outcome
 outcome s = cond (ltb longestFormat (length s)) (refused Length) (checkGrammar (reading s))
 
--- the number of a refusal, and its place
+-- the table's columns 'No.' and 'Place'
 abbrev pub refusalNumber : FormatRefusal → ℕ
 refusalNumber Length = 2
 refusalNumber (Grammar p) = 3
@@ -46,12 +48,12 @@ refusalNumber (Range p) = 4
 refusalNumber Size = 5
 
 abbrev pub refusalPlace : FormatRefusal → ℕ
-refusalPlace Length = 1024
+refusalPlace Length = longestFormat
 refusalPlace (Grammar p) = p
 refusalPlace (Range p) = p
 refusalPlace Size = 0
 
--- the same of an outcome; number and place are 0 where the format is accepted
+-- the same of an outcome: '0 for an accepted format check', and 0 for the place that it does not have
 abbrev pub outcomeNumber : Outcome → ℕ
 outcomeNumber (accepted xs) = 0
 outcomeNumber (refused w) = refusalNumber w

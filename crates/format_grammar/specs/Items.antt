@@ -23,7 +23,7 @@ abbrev pub times : Repeat → ℕ
 times absent = 1
 times (given r) = valueOf r
 
--- 'Field: Iw, Fw.d, Lw, A or Aw', its numbers being of the type N
+-- 'Field: Iw, Fw.d, Lw, A or Aw', its numbers being of the type N: a `Number` in the tree, a value alone where it is met
 pub data Field (N : Type 0) : Type 0 where
   I : (w : N) → Field N
   F : (w d : N) → Field N
@@ -32,7 +32,8 @@ pub data Field (N : Type 0) : Type 0 where
   Aw : (w : N) → Field N
 
 -- 'Item: a field, optionally with a repeat r before it; a group ( items ), optionally with r; nX; Tn; a slash, optionally
--- with r; a literal.' Each item stands before the items that follow it.
+-- with r; a literal.' An item carries the items that follow it, so one item alone has `none` after it; `none` itself stands
+-- for no item, of which no format is made ('one or more items').
 pub data Items : Type 0 where
   none : Items
   field : (r : Repeat) → Field Number → (next : Items) → Items

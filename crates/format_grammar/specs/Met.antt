@@ -57,7 +57,7 @@ fromLastGroup (Items.T n xs) = fromLastGroup xs
 fromLastGroup (Items.slash r xs) = fromLastGroup xs
 fromLastGroup (Items.literal cs xs) = fromLastGroup xs
 
--- the part that the walk returns to (the law `ReturnPartIs`): 'with no such group, .. the whole format'
+-- the part that the walk returns to (the law `ReturnPartIs` of `Promises`): 'with no such group, .. the whole format'
 unfoldable pub returnPart : Items → Items
 returnPart xs = cond (hasGroup xs) (fromLastGroup xs) xs
 

@@ -11,20 +11,21 @@ use Rattle.format_grammar.specs.Grammar.{NumberAt, Format, LongestShared
 use Rattle.format_grammar.specs.Ranges.{Ranged, ranged, place, numbers}
 use Rattle.format_grammar.specs.Size.{size, largestSize}
 use Rattle.format_grammar.specs.Met.{met, hasGroup, returnPart, returnIndex}
-use Rattle.format_grammar.specs.Check.{longestFormat, accepted, refused, outcome}
-use Rattle.format_grammar.specs.declared.FormatRefusal.the-variants.{Length, Grammar, Range, Size}
+use Rattle.format_grammar.specs.Check.{longestFormat, accepted, outcome, outcomeNumber, outcomePlace}
 
 -- ---- numbers and their ranges
 
+-- a number is within its range
 abbrev pub Within : Ranged → Type 0
 Within (ranged n low high) = (low ≤ valueOf n) × (valueOf n ≤ high)
 
+-- every number is
 abbrev pub AllWithin : List Ranged → Type 0
 AllWithin [] = Unit {0}
 AllWithin (n ∷ ns) = Within n × AllWithin ns
 
--- the first number out of its range stands at offset p
-pub record FirstOut (ns : List Ranged) (p : ℕ) : Type 0 where
+-- the first number that is not stands at offset p
+pub record FirstOutsideAt (ns : List Ranged) (p : ℕ) : Type 0 where
   pub before : List Ranged
   pub n : Ranged
   pub after : List Ranged
@@ -45,34 +46,46 @@ NumbersInOrder = (s : List ℕ) (xs : Items) → Format s xs → InOrder s 0 (nu
 
 -- ---- the format check: what is accepted and what each row refuses, in terms of the grammar
 
+-- the format check answers with number n, 0 for accepted, and place p
+pub record Answers (s : List ℕ) (n p : ℕ) : Type 0 where
+  pub number-is : outcomeNumber (outcome s) ≡ n
+  pub place-is : outcomePlace (outcome s) ≡ p
+
+-- of the grammar, with every number within its range, and within the limits of length and size
 pub record Acceptable (s : List ℕ) (xs : Items) : Type 0 where
   pub short : length s ≤ longestFormat
   pub format : Format s xs
   pub ranges : AllWithin (numbers xs)
   pub small : size xs ≤ largestSize
 
--- row 3
+-- row 2: 'format over 1,024 bytes', place 1,024
+pub record TooLong (s : List ℕ) (p : ℕ) : Type 0 where
+  pub long : longestFormat < length s
+  pub place-is : p ≡ 1024
+
+-- row 3: 'not of the grammar', and its place
 pub record NotGrammatical (s : List ℕ) (p : ℕ) : Type 0 where
   pub short : length s ≤ longestFormat
-  pub no-reading : (xs : Items) → Format s xs → ⊥
+  pub not-format : (xs : Items) → Format s xs → ⊥
   pub place-is : LongestShared s p
 
--- row 4
+-- row 4: 'a number out of range', place 'offset of the first such number'
 pub record OutOfRange (s : List ℕ) (p : ℕ) : Type 0 where
   pub short : length s ≤ longestFormat
-  pub reading : Items
-  pub format : Format s reading
-  pub first : FirstOut (numbers reading) p
+  pub read : Items
+  pub format : Format s read
+  pub place-is : FirstOutsideAt (numbers read) p
 
--- row 5
-pub record TooLarge (s : List ℕ) : Type 0 where
+-- row 5: 'size over 4,096', place 0
+pub record TooLarge (s : List ℕ) (p : ℕ) : Type 0 where
   pub short : length s ≤ longestFormat
-  pub reading : Items
-  pub format : Format s reading
-  pub ranges : AllWithin (numbers reading)
-  pub large : largestSize < size reading
+  pub read : Items
+  pub format : Format s read
+  pub ranges : AllWithin (numbers read)
+  pub large : largestSize < size read
+  pub place-is : p ≡ 0
 
--- accepted, as these items, is exactly what the grammar relates to them, within ranges and limits
+-- accepted as these items is exactly what the grammar derives as them, within ranges and limits
 abbrev pub AcceptsExactly : Type 0
 AcceptsExactly = (s : List ℕ) (xs : Items) → (outcome s ≡ accepted xs) ↔ Acceptable s xs
 
@@ -80,21 +93,33 @@ AcceptsExactly = (s : List ℕ) (xs : Items) → (outcome s ≡ accepted xs) ↔
 abbrev pub OneReading : Type 0
 OneReading = (s : List ℕ) (xs ys : Items) → Format s xs → Format s ys → xs ≡ ys
 
+-- each row answers exactly where its condition holds, with its place
 abbrev pub LengthRefused : Type 0
-LengthRefused = (s : List ℕ) → (outcome s ≡ refused Length) ↔ (longestFormat < length s)
+LengthRefused = (s : List ℕ) (p : ℕ) → Answers s 2 p ↔ TooLong s p
 
 abbrev pub GrammarRefused : Type 0
-GrammarRefused = (s : List ℕ) (p : ℕ) → (outcome s ≡ refused (Grammar p)) ↔ NotGrammatical s p
+GrammarRefused = (s : List ℕ) (p : ℕ) → Answers s 3 p ↔ NotGrammatical s p
 
 abbrev pub RangeRefused : Type 0
-RangeRefused = (s : List ℕ) (p : ℕ) → (outcome s ≡ refused (Range p)) ↔ OutOfRange s p
+RangeRefused = (s : List ℕ) (p : ℕ) → Answers s 4 p ↔ OutOfRange s p
 
 abbrev pub SizeRefused : Type 0
-SizeRefused = (s : List ℕ) → (outcome s ≡ refused Size) ↔ TooLarge s
+SizeRefused = (s : List ℕ) (p : ℕ) → Answers s 5 p ↔ TooLarge s p
+
+-- every text is accepted or refused by one of the four rows
+pub data Verdict (s : List ℕ) : ℕ → ℕ → Type 0 where
+  acceptable : {xs : Items} → Acceptable s xs → Verdict s 0 0
+  too-long : {p : ℕ} → TooLong s p → Verdict s 2 p
+  not-grammatical : {p : ℕ} → NotGrammatical s p → Verdict s 3 p
+  out-of-range : {p : ℕ} → OutOfRange s p → Verdict s 4 p
+  too-large : {p : ℕ} → TooLarge s p → Verdict s 5 p
+
+abbrev pub AlwaysAnswered : Type 0
+AlwaysAnswered = (s : List ℕ) → Verdict s (outcomeNumber (outcome s)) (outcomePlace (outcome s))
 
 -- ---- the items met
 
--- as many as the size
+-- as many as the size, so at most 4,096 where the format is accepted
 abbrev pub MetIsSize : Type 0
 MetIsSize = (xs : Items) → length (met xs) ≡ size xs
 

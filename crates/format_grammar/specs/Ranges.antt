@@ -1,48 +1,52 @@
 -- Document 01, 'The format': 'Ranges: r, and n in X and T, 1 to 255; w 1 to 64; d 0 to 9.'
 -- Assumes nothing.
-use mathlib.Core.Bool.{Bool, false, _||_, cond}
+use mathlib.Core.Bool.{Bool, _||_, cond}
 use mathlib.Core.List.{List, [], _∷_, _++_}
 use Prim.Native.Nat.{ℕ}
 use lib.Dec.{ltb}
 use Rattle.format_grammar.specs.Items.{Number, offset, valueOf, Repeat, absent, given, Field, I, F, L, A, Aw, Items, none, field, group, X, T, slash, literal}
 
--- a number and its range
+-- a number and its range, both ends included
 pub data Ranged : Type 0 where
   ranged : Number → (low high : ℕ) → Ranged
 
-abbrev pub repeated : Number → Ranged
-repeated r = ranged r 1 255
+-- 'r, and n in X and T, 1 to 255'
+abbrev pub rangeR : Number → Ranged
+rangeR r = ranged r 1 255
 
-abbrev pub counted : Number → Ranged
-counted n = ranged n 1 255
+abbrev pub rangeN : Number → Ranged
+rangeN n = ranged n 1 255
 
-abbrev pub wide : Number → Ranged
-wide w = ranged w 1 64
+-- 'w 1 to 64'
+abbrev pub rangeW : Number → Ranged
+rangeW w = ranged w 1 64
 
-abbrev pub placed : Number → Ranged
-placed d = ranged d 0 9
+-- 'd 0 to 9'
+abbrev pub rangeD : Number → Ranged
+rangeD d = ranged d 0 9
 
--- the numbers of items in the order in which they stand
+-- the numbers of items in the order in which they stand (the law `NumbersInOrder` of `Promises`)
 abbrev pub repeatNumbers : Repeat → List Ranged
 repeatNumbers absent = []
-repeatNumbers (given r) = repeated r ∷ []
+repeatNumbers (given r) = rangeR r ∷ []
 
 abbrev pub fieldNumbers : Field Number → List Ranged
-fieldNumbers (I w) = wide w ∷ []
-fieldNumbers (F w d) = wide w ∷ placed d ∷ []
-fieldNumbers (L w) = wide w ∷ []
+fieldNumbers (I w) = rangeW w ∷ []
+fieldNumbers (F w d) = rangeW w ∷ rangeD d ∷ []
+fieldNumbers (L w) = rangeW w ∷ []
 fieldNumbers A = []
-fieldNumbers (Aw w) = wide w ∷ []
+fieldNumbers (Aw w) = rangeW w ∷ []
 
 unfoldable pub numbers : Items → List Ranged
 numbers none = []
 numbers (field r k xs) = repeatNumbers r ++ fieldNumbers k ++ numbers xs
 numbers (group r inside xs) = repeatNumbers r ++ numbers inside ++ numbers xs
-numbers (X n xs) = counted n ∷ numbers xs
-numbers (T n xs) = counted n ∷ numbers xs
+numbers (X n xs) = rangeN n ∷ numbers xs
+numbers (T n xs) = rangeN n ∷ numbers xs
 numbers (slash r xs) = repeatNumbers r ++ numbers xs
 numbers (literal cs xs) = numbers xs
 
+-- 'a number out of range'
 abbrev pub outside : Ranged → Bool
 outside (ranged n low high) = ltb (valueOf n) low || ltb high (valueOf n)
 

@@ -9,7 +9,7 @@ use lib.Dec.{ltb, leb, eqb}
 use lib.ListN.{drop}
 use Rattle.buffer.specs.Characters.{decimalPoint, digitZero}
 use Rattle.number.specs.Digits.{isDigit}
-use Rattle.format_grammar.specs.Characters.{quotationMark, apostrophe, openingBracket, closingBracket, comma, solidus, letterA, letterF, letterI, letterL, letterT, letterX}
+use Rattle.format_grammar.specs.Characters.{quotationMark, apostrophe, openingBracket, closingBracket, comma, slashSign, letterA, letterF, letterI, letterL, letterT, letterX}
 use Rattle.format_grammar.specs.Items.{Number, number, Repeat, absent, given, I, F, L, A, Aw, Items, join}
 
 -- what a number is read for, with what was read of its item before
@@ -46,6 +46,7 @@ pub data State : Type 0 where
   end : Items → State
   dead : State
 
+-- the first of two states where a test holds, else the second
 abbrev pub pick : Bool → State → State → State
 pick true a b = a
 pick false a b = b
@@ -67,14 +68,17 @@ separated at l xs q b = pick (eqb b comma) (within (wanted (at + 1)) l xs q) (pi
 abbrev pub written : ℕ → ℕ → ℕ → Repeat
 written from at v = cond (eqb at from) absent (given (number from v))
 
+-- a state that no number may stand before
 abbrev pub onlyAbsent : Repeat → State → State
 onlyAbsent absent a = a
 onlyAbsent (given n) a = dead
 
+-- after nX, for which a number must stand
 abbrev pub skipped : Repeat → ℕ → Items → Open → State
 skipped absent l xs q = dead
 skipped (given n) l xs q = within after l (join xs (Items.X n Items.none)) q
 
+-- in a group that opens, if a level is left
 abbrev pub opened : Repeat → ℕ → ℕ → Items → Open → State
 opened r at l xs q = pick (eqb l 0) dead (within (wanted (at + 1)) (l - 1) Items.none (group xs r q))
 
@@ -88,10 +92,11 @@ begun r at l xs q b =
     (pick (eqb b openingBracket) (opened r at l xs q)
     (pick (eqb b letterX) (skipped r l xs q)
     (pick (eqb b letterT) (onlyAbsent r (within (digits column (at + 1) 0) l xs q))
-    (pick (eqb b solidus) (within after l (join xs (Items.slash r Items.none)) q)
+    (pick (eqb b slashSign) (within after l (join xs (Items.slash r Items.none)) q)
     (pick (eqb b apostrophe || eqb b quotationMark) (onlyAbsent r (within (inside b []) l xs q))
     dead))))))))
 
+-- after Fw and the point, for which w must stand
 abbrev pub pointed : Repeat → Repeat → ℕ → ℕ → Items → Open → State
 pointed r absent at l xs q = dead
 pointed r (given w) at l xs q = within (digits (places r w) (at + 1) 0) l xs q
@@ -111,6 +116,7 @@ ended (places r w) (given d) = Items.field r (F w d) Items.none
 ended column absent = Items.none
 ended column (given n) = Items.T n Items.none
 
+-- a state that some item must have led to
 abbrev pub unlessNone : Items → State → State
 unlessNone Items.none a = dead
 unlessNone (Items.field r k xs) a = a
@@ -166,6 +172,7 @@ final at (within m l xs q) = wrong at
 final at (end xs) = items xs
 final at dead = wrong at
 
+-- the first answer where no byte can go on, else the second
 abbrev pub unlessDead : State → Reading → Reading → Reading
 unlessDead begin a b = b
 unlessDead (within m l xs q) a b = b

@@ -29,10 +29,11 @@ group-entry n end r h g few =
     record {
       kind = rw e (kind-word 9 x 0 (omega arith));
       inside = rw e (omega (arith, first-word 9 x 0 (omega arith) (omega arith)));
-      repeats = repeat-entry (word 9 x 0) r (omega arith) }
+      repeats = repeat-entry (word 9 x 0) r (omega arith);
+    }
 
 module _ {s : List ℕ} {l r : ℕ} {p inside p' : Position} {a t b u d v : List ℕ} (room : Room s p a) (o : Opened s l p inside r a t b u) (k : Took s (l - 1) (wanted (inside .at)) close inside b u p' d v)
-         (long : length d ≡ length a) where
+    (long : length d ≡ length a) where
   pub group-fits : (p .entries < p' .entries) × (p' .entries ≤ 1024) × (p' .entries ≤ length d) × (r < 1000)
   group-fits =
       (omega (arith, k .more-entries, o .entries-are), omega (arith, k .few-entries, k .high, room .short), omega (arith, k .few-entries, k .high, room .entries-fit), o .few)
@@ -49,24 +50,25 @@ module _ {s : List ℕ} {l r : ℕ} {p inside p' : Position} {a t b u d v : List
       let same-long : length e ≡ length d = ap length g ∙ length-set d n w in
       let inner : Holds d v (p' .chars) (l - 1) (n + 1) (k .items) (p' .entries) = subst (λ (j : ℕ). Holds d v (p' .chars) (l - 1) j (k .items) (p' .entries)) (o .entries-are) (k .holds) in
       let kept : Holds e v (p' .chars) (l - 1) (n + 1) (k .items) (p' .entries)
-            = holds-kept inner (sym same-long) (λ i lo hi. ap (λ (z : List ℕ). getD z i 0) g ∙ getD-set-other d n i w 0 (λ z. omega arith)) refl (omega arith) in
+      = holds-kept inner (sym same-long) (λ i lo hi. ap (λ (z : List ℕ). getD z i 0) g ∙ getD-set-other d n i w 0 (λ z. omega arith)) refl (omega arith) in
       let ge : GroupEntry (getD e n 0) (times (o .k)) n (p' .entries) =
-            subst (λ (x : ℕ). GroupEntry x (times (o .k)) n (p' .entries)) (sym is) (subst (λ (x : ℕ). GroupEntry w x n (p' .entries)) (sym (o .repeats)) (group-entry n (p' .entries) r (fits .0) (fits .1) (o .few))) in
+      subst (λ (x : ℕ). GroupEntry x (times (o .k)) n (p' .entries)) (sym is) (subst (λ (x : ℕ). GroupEntry w x n (p' .entries)) (sym (o .repeats)) (group-entry n (p' .entries) r (fits .0) (fits .1) (o .few))) in
       record {
         items = Items.group (o .k) (k .items) Items.none;
         runs = λ xs q. o .runs xs q ∙ k .runs Items.none (Open.group xs (o .k) q) ∙ ap (λ (j : ℕ). readAt s (p' .at) (State.within Mode.after j (join xs (Items.group (o .k) (k .items) Items.none)) q)) back;
         holds = subst (λ (j : ℕ). Holds e v (p' .chars) j n (Items.group (o .k) (k .items) Items.none) (p' .entries)) back (Holds.group {n = n} (omega arith) ge kept Holds.none);
         entries-kept = ap (take n) g ∙ take-set-le n d n w (omega arith) ∙ sym (take-take n (n + 1) d (omega arith))
-          ∙ ap (take n) (subst (λ (j : ℕ). take j d ≡ take j b) (o .entries-are) (k .entries-kept) ∙ ap (take (n + 1)) (o .same-entries)) ∙ take-take n (n + 1) a (omega arith);
+            ∙ ap (take n) (subst (λ (j : ℕ). take j d ≡ take j b) (o .entries-are) (k .entries-kept) ∙ ap (take (n + 1)) (o .same-entries)) ∙ take-take n (n + 1) a (omega arith);
         chars-kept = subst (λ (j : ℕ). take j v ≡ take j u) (o .chars-are) (k .chars-kept) ∙ ap (take (p .chars)) (o .same-chars);
         outside-is = k .outside-is ∙ ap (λ (z : ℕ). outsideAfter z (numbers (k .items))) (o .outside-is) ∙ sym (outside-append (p .outside) (repeatNumbers (o .k)) (numbers (k .items)))
-          ∙ ap (outsideAfter (p .outside)) (sym (append-nil (repeatNumbers (o .k) ++ numbers (k .items))));
+            ∙ ap (outsideAfter (p .outside)) (sym (append-nil (repeatNumbers (o .k) ++ numbers (k .items))));
         more = omega (arith, o .more, k .more);
         high = k .high;
         few-entries = k .few-entries;
         few-chars = k .few-chars;
         more-entries = omega (arith, fits .0);
-        more-chars = omega (arith, k .more-chars, o .chars-are) }
+        more-chars = omega (arith, k .more-chars, o .chars-are);
+      }
 
 -- ---- items after one another
 
@@ -100,7 +102,8 @@ so-far-none {s} {l} {start} {a} {t} room =
       long-chars = refl;
       more = omega arith;
       more-entries = omega arith;
-      more-chars = omega arith }
+      more-chars = omega arith;
+    }
 
 module _ {s : List ℕ} {l : ℕ} {start p : Position} {a t b u : List ℕ} (f : SoFar s l start a t p b u) where
   pub so-far-wrong : (x : ℕ) → ((xs : Items) (q : Open) → readAt s (p .at) (State.within (wanted (p .at)) l xs q) ≡ Reading.wrong x)
@@ -158,7 +161,8 @@ module _ {s : List ℕ} {l : ℕ} {start p : Position} {a t b u : List ℕ} (f :
               few-entries = omega (arith, k .few-entries);
               few-chars = omega (arith, k .few-chars);
               more-entries = omega (arith, f .more-entries, k .more-entries);
-              more-chars = omega (arith, f .more-chars, k .more-chars) }
+              more-chars = omega (arith, f .more-chars, k .more-chars);
+            }
 
         pub so-far-more : getD s (p' .at) 0 ≡ 44 → SoFar s l start a t (record { at = p' .at + 1; entries = p' .entries; chars = p' .chars; outside = p' .outside }) d v
         unfolding step stepWithin
@@ -175,4 +179,5 @@ module _ {s : List ℕ} {l : ℕ} {start p : Position} {a t b u : List ℕ} (f :
               long-chars = long-v ∙ f .long-chars;
               more = omega (arith, f .more, k .more);
               more-entries = omega (arith, f .more-entries, k .more-entries);
-              more-chars = omega (arith, f .more-chars, k .more-chars) }
+              more-chars = omega (arith, f .more-chars, k .more-chars);
+            }

@@ -39,7 +39,8 @@ module _ {s : List ℕ} {v at l : ℕ} (p : Position) (f : NumberFound s (p .at)
         deep = omega arith;
         few = few;
         more = omega (arith, f .low);
-        high = omega arith }
+        high = omega arith;
+      }
 
 -- ---- a mark
 
@@ -53,6 +54,7 @@ mark-after-digits {s} {from} {v} {at} f h z e = go (eqb (getD s at 0) 39) refl
   where
     given : written from at v ≡ Repeat.given (number from v)
     given = written-given from at v (λ y. omega arith)
+
     go : (x : Bool) → eqb (getD s at 0) 39 ≡ x → Stuck s from (wanted from) at
     go true g = begun-stuck f h (Repeat.given (number from v)) given (λ l xs q. rw (eqb-true (getD s at 0) 39 g))
     go false g = begun-stuck f h (Repeat.given (number from v)) given (λ l xs q. rw (eqb-true (getD s at 0) 34 (other-mark (eqb (getD s at 0) 39) (eqb (getD s at 0) 34) e g)))

@@ -46,7 +46,7 @@ took-single {l} {p} {a} {w} {r} room i e t =
       items = i .item;
       runs = i .runs l;
       holds = one-held a (p .entries) w (i .first) (omega (arith, room .few-entries, room .entries-fit, i .more, i .high)) e
-        (single-entry t (p .chars) w r (i .met) (omega (arith, i .kind)) (i .means t) (omega (arith, i .few)) (omega (arith, reach-other w (i .kind))));
+          (single-entry t (p .chars) w r (i .met) (omega (arith, i .kind)) (i .means t) (omega (arith, i .few)) (omega (arith, reach-other w (i .kind))));
       entries-kept = ap (take (p .entries)) e ∙ take-set-le (p .entries) a (p .entries) (entry w r) (omega arith);
       chars-kept = refl;
       outside-is = i .outside-is ∙ ap (outsideAfter (p .outside)) (sym (i .numbers-are));
@@ -55,7 +55,8 @@ took-single {l} {p} {a} {w} {r} room i e t =
       few-entries = omega (arith, i .more, room .few-entries);
       few-chars = omega (arith, i .more, room .few-chars);
       more-entries = omega arith;
-      more-chars = omega arith }
+      more-chars = omega arith;
+    }
 
 -- ---- a literal
 
@@ -69,8 +70,10 @@ begins-mark m at l xs q e = go (eqb m 39) refl
   where
     at39 : m ≡ 39 → step at (State.within (wanted at) l xs q) m ≡ State.within (Mode.inside m []) l xs q
     at39 z = rw z (step-used Use.start at 0 at l xs q 39 (and-false (ltb at (at + 3))) ∙ rw (eq-eqb at at refl))
+
     at34 : m ≡ 34 → step at (State.within (wanted at) l xs q) m ≡ State.within (Mode.inside m []) l xs q
     at34 z = rw z (step-used Use.start at 0 at l xs q 34 (and-false (ltb at (at + 3))) ∙ rw (eq-eqb at at refl))
+
     go : (x : Bool) → eqb m 39 ≡ x → step at (State.within (wanted at) l xs q) m ≡ State.within (Mode.inside m []) l xs q
     go true f = at39 (eqb-true m 39 f)
     go false f = at34 (eqb-true m 34 (other-mark (eqb m 39) (eqb m 34) e f))
@@ -90,7 +93,7 @@ chars-before t u c end cs h e f =
     sym (take-take c end u (omega arith)) ∙ ap (take c) f ∙ take-append-le c (take c t) cs (omega (arith, length-take-le c t h)) ∙ take-take c c t (omega arith)
 
 module _ {s : List ℕ} {p : Position} {a t u : List ℕ} {m next end : ℕ} (room : Room s p a) (fits : length s ≤ length t) (f : LiteralFound s (p .at + 1) m t (p .chars) u next end)
-         (h : p .at < length s) (e : getD s (p .at) 0 ≡ m) (k : (eqb m 39 || eqb m 34) ≡ true) where
+    (h : p .at < length s) (e : getD s (p .at) 0 ≡ m) (k : (eqb m 39 || eqb m 34) ≡ true) where
   pub took-literal : (l : ℕ) (b : List ℕ) → b ≡ set a (p .entries) (entry (word 8 (p .chars) (end - p .chars)) 1)
       → Took s l (wanted (p .at)) (State.within Mode.after) p a t (record { at = next; entries = p .entries + 1; chars = end; outside = p .outside }) b u
   unfolding numbers outsideAfter
@@ -104,8 +107,8 @@ module _ {s : List ℕ} {p : Position} {a t u : List ℕ} {m next end : ℕ} (ro
         items = Items.literal (f .characters) Items.none;
         runs = λ xs q. literal-begun s (p .at) m h e k l xs q ∙ f .runs l xs q;
         holds = one-held a (p .entries) w First.literal (omega (arith, room .few-entries, room .entries-fit)) g
-          (single-entry u end w 1 (Met.literal (f .characters)) (omega (arith, kind-word 8 c (end - c) (omega arith)))
-          (met-literal u c (end - c) low ∙ ap Met.literal (text-at t u c end (f .characters) small (f .end-is) (f .are))) (omega arith) far);
+            (single-entry u end w 1 (Met.literal (f .characters)) (omega (arith, kind-word 8 c (end - c) (omega arith)))
+            (met-literal u c (end - c) low ∙ ap Met.literal (text-at t u c end (f .characters) small (f .end-is) (f .are))) (omega arith) far);
         entries-kept = ap (take (p .entries)) g ∙ take-set-le (p .entries) a (p .entries) (entry w 1) (omega arith);
         chars-kept = chars-before t u c end (f .characters) small (f .end-is) (f .are);
         outside-is = refl;
@@ -114,7 +117,8 @@ module _ {s : List ℕ} {p : Position} {a t u : List ℕ} {m next end : ℕ} (ro
         few-entries = omega (arith, room .few-entries, f .more);
         few-chars = omega (arith, f .room);
         more-entries = omega arith;
-        more-chars = omega (arith, f .end-is) }
+        more-chars = omega (arith, f .end-is);
+      }
 
 -- a literal that goes wrong
 pub literal-wrong : (s : List ℕ) (at m x : ℕ) → at < length s → getD s at 0 ≡ m → (eqb m 39 || eqb m 34) ≡ true → Stuck s (at + 1) (Mode.inside m []) x

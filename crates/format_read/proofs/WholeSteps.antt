@@ -64,4 +64,5 @@ module _ (s : List ℕ) where
             holds = k .holds;
             outside-is = k .outside-is ∙ outside-first (numbers (k .items));
             few-entries = omega (arith, k .few-entries, k .high);
-            few-chars = omega (arith, k .few-chars, k .high) }
+            few-chars = omega (arith, k .few-chars, k .high);
+          }

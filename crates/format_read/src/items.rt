@@ -2,8 +2,8 @@
 use crate::Answer;
 use crate::Head;
 use crate::Position;
-use crate::begin::read_head;
 use crate::entry::put_entry;
+use crate::heads::read_head;
 use format_words::KIND_GROUP;
 ghost use mathlib.Core.Path.{_≡_};
 ghost use Prim.Native.Nat.{_+_, _-_, _*_, _<_, _≤_};

@@ -1,12 +1,12 @@
 // A format's text read into entries, a number for each item, and the characters of its literals.
-mod begin;
 mod digits;
 mod entry;
 pub mod format;
+mod heads;
 mod items;
-mod plain;
+mod literals;
 mod range;
-mod text;
+mod singles;
 
 // Where a reader stands: the offset of the next byte, how many entries and characters there are, and the first number out
 // of range so far: its offset plus one, or 0 for none.

@@ -17,7 +17,7 @@ use Rattle.format_read.proofs.items.+read_item+read_items.Lts-read_item
 use Rattle.format_read.proofs.items.read_items.Reads as read-items
 use Rattle.format_read.proofs.items.read_items.Kinds as read-items-kinds
 use Rattle.format_read.proofs.items.+read_item+read_items.Lts-read_items as read-items-lts
-use Rattle.format_read.proofs.begin.read_head.Reads as read-head-reads
+use Rattle.format_read.proofs.heads.read_head.Reads as read-head-reads
 use Rattle.format_read.proofs.items.put_group.Reads as put-group-reads
 use Rattle.format_read.proofs.items.+read_item+read_items.{statement}
 use Rattle.format_read.proofs.items.+read_item+read_items.Tie.{close}
@@ -109,10 +109,13 @@ read-item-read-items-requires : (t : ℕ) → read-item-lts.Need-read-items-requ
 ) (read-item-at t) read-item.Post
 read-item-read-items-requires t c κs = let o = rw (c .before .before .before .inside .given .1) at (c .before .before .before .before .before .before .before .before .before .read-head .ensures) in
     let room = c .before .before .before .before .before .before .before .before .before .before .before .before .before .before .before .pre .1 .0 in
-    let kept = c .before .before .before .before .before .before .before .before .before .read-head .kept .1 .1 .1 in
-    (omega (arith, o .deep, c .before .before .before .before .before .before .before .before .before .before .before .before .before .before .before .pre .0),
-      (record { within = o .high; short = room .short; few-entries = omega (arith, o .entries-are, o .more, room .few-entries); few-chars = omega (arith, o .chars-are, o .more, room .few-chars); entries-fit = omega (arith, kept .0, room .entries-fit) },
-      omega (arith, kept .1 .0, c .before .before .before .before .before .before .before .before .before .before .before .before .before .before .before .pre .1 .1)))
+    let kept = c .before .before .before .before .before .before .before .before .before .read-head .kept .1 .1 .1 in (
+      omega (arith, o .deep, c .before .before .before .before .before .before .before .before .before .before .before .before .before .before .before .pre .0),
+      (
+        record { within = o .high; short = room .short; few-entries = omega (arith, o .entries-are, o .more, room .few-entries); few-chars = omega (arith, o .chars-are, o .more, room .few-chars); entries-fit = omega (arith, kept .0, room .entries-fit) },
+        omega (arith, kept .1 .0, c .before .before .before .before .before .before .before .before .before .before .before .before .before .before .before .pre .1 .1),
+      ),
+    )
 
 -- src/items.rt:45:29
 read-item-enum-known-place-2 : (t : ℕ) → read-item-lts.Need-enum-known-place-2 (

@@ -1,0 +1,86 @@
+-- The rows of the format check, from what the reader and the size say.
+-- Assumes nothing.
+use mathlib.Core.Path.{_≡_, refl, sym, ap, _∙_}
+use mathlib.Core.List.{List}
+use Prim.Native.Nat.{ℕ, _+_, _-_, _<_, _≤_}
+use native.Mathlib.Omega.{arith}
+use borrow.Author.Tests.{lt-ltb, le-ltb}
+use lib.ListN.{length}
+use Rattle.format_grammar.specs.Items.{Items}
+use Rattle.format_grammar.specs.Ranges.{numbers, FirstOutside, nowhere, at, firstOutside}
+use Rattle.format_grammar.specs.Size.{size}
+use Rattle.format_grammar.specs.Reading.{wrong, reading}
+use Rattle.format_grammar.specs.Check.{Outcome, accepted, refused, checkSize, checkRange, checkGrammar, outcome, outcomeNumber, outcomePlace}
+use Rattle.format_grammar.specs.declared.FormatRefusal.the-variants.{Length, Grammar, Range, Size}
+use Rattle.format_grammar.proofs.RangeLaws.{nowhere-all}
+use Rattle.format_words.specs.Held.{Held}
+use Rattle.format_run.specs.Sizes.{capped}
+use Rattle.format_read.specs.declared.Position.{Position}
+use Rattle.format_read.specs.Whole.{kept, ItemsRead}
+use Rattle.format_check.specs.declared.FormatCheck.{FormatCheck}
+use Rattle.format_check.specs.Checked.{answer, answerNumber, answerPlace, ItemsHeld}
+
+pub row-grammar : (s : List ℕ) (p : ℕ) → reading s ≡ wrong p → checkGrammar (reading s) ≡ refused (Grammar p)
+row-grammar s p e = rw e
+
+module _ {s a t : List ℕ} {p : Position} (i : ItemsRead s a t p) where
+  after-grammar : checkGrammar (reading s) ≡ checkRange (firstOutside (numbers (i .read))) (i .read)
+  after-grammar = rw (i .is)
+
+  pub row-range : (p .outside ≡ 0 → ⊥) → checkGrammar (reading s) ≡ refused (Range (p .outside - 1))
+  row-range h = after-grammar ∙ go (firstOutside (numbers (i .read))) (i .outside-is)
+    where
+      go : (f : FirstOutside) → p .outside ≡ kept f → checkRange f (i .read) ≡ refused (Range (p .outside - 1))
+      go nowhere e = absurd (h e)
+      go (at q) e = let k : q ≡ p .outside - 1 = omega (arith, e) in ap (λ (z : ℕ). refused (Range z)) k
+
+  pub held : Held a 4 0 (p .entries)
+  held = record { t = t; c = p .chars; items = i .read; holds = i .holds }
+
+  module _ (h : p .outside ≡ 0) where
+    none-outside : firstOutside (numbers (i .read)) ≡ nowhere
+    none-outside = go (firstOutside (numbers (i .read))) (sym (i .outside-is) ∙ h)
+      where
+        go : (f : FirstOutside) → kept f ≡ 0 → f ≡ nowhere
+        go nowhere e = refl
+        go (at q) e = absurd (omega (arith, e))
+
+    after-range : checkGrammar (reading s) ≡ checkSize (i .read)
+    after-range = after-grammar ∙ rw none-outside
+
+    pub row-size : (k : ℕ) → k ≡ capped (size (i .read)) → 4096 < k → checkGrammar (reading s) ≡ refused Size
+    row-size k e g = after-range ∙ rw (lt-ltb 4096 (size (i .read)) (omega arith))
+
+    pub row-none : (k : ℕ) → k ≡ capped (size (i .read)) → k ≤ 4096 → ItemsHeld s a t (p .entries) k
+    row-none k e g =
+        record {
+          items = i .read;
+          accepts = after-range ∙ rw (le-ltb 4096 (size (i .read)) (omega arith));
+          c = p .chars;
+          holds = i .holds;
+          ranges = nowhere-all (numbers (i .read)) none-outside;
+          sized = omega arith;
+          small = g;
+        }
+
+-- ---- the answer, its number and its place
+
+number-of : (o : Outcome) → answerNumber (answer o) ≡ outcomeNumber o
+number-of (accepted xs) = refl
+number-of (refused w) = refl
+
+place-of : (o : Outcome) → answerPlace (answer o) ≡ outcomePlace o
+place-of (accepted xs) = refl
+place-of (refused w) = refl
+
+pub answered : (s : List ℕ) (r : FormatCheck) → r ≡ answer (outcome s) → (r ≡ answer (outcome s)) × ((answerNumber r ≡ outcomeNumber (outcome s)) × (answerPlace r ≡ outcomePlace (outcome s)))
+answered s r e = (e, (ap answerNumber e ∙ number-of (outcome s), ap answerPlace e ∙ place-of (outcome s)))
+
+-- row 2
+pub outcome-long : (s : List ℕ) → 1024 < length s → refused Length ≡ outcome s
+unfolding outcome
+outcome-long s h = rw (lt-ltb 1024 (length s) h)
+
+pub outcome-short : (s : List ℕ) → length s ≤ 1024 → checkGrammar (reading s) ≡ outcome s
+unfolding outcome
+outcome-short s h = rw (le-ltb 1024 (length s) h)

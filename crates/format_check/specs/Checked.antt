@@ -1,0 +1,46 @@
+-- What the format check answers, and what it finds of an accepted format.
+-- Assumes nothing.
+use mathlib.Core.Path.{_≡_}
+use mathlib.Core.List.{List}
+use Prim.Native.Nat.{ℕ, _≤_}
+use lib.ListN.{length}
+use Rattle.format_grammar.specs.Items.{Items}
+use Rattle.format_grammar.specs.Ranges.{numbers}
+use Rattle.format_grammar.specs.Size.{size}
+use Rattle.format_grammar.specs.Reading.{reading}
+use Rattle.format_grammar.specs.Check.{Outcome, accepted, refused, checkGrammar, refusalNumber, refusalPlace}
+use Rattle.format_grammar.specs.Promises.{AllWithin}
+use Rattle.format_words.specs.Held.{Holds}
+use Rattle.format_check.specs.declared.FormatCheck.{FormatCheck}
+use Rattle.format_check.specs.declared.FormatCheck.the-variants as check
+use Rattle.format_check.specs.declared.ItemsChecked.{ItemsChecked}
+use Rattle.format_check.specs.declared.ItemsChecked.the-variants as checked
+
+-- the answer that an outcome has
+abbrev pub answer : Outcome → FormatCheck
+answer (accepted xs) = check.Accepted
+answer (refused w) = check.Refused w
+
+-- document 01's number and place of each answer; 0 where the format is accepted
+abbrev pub answerNumber : FormatCheck → ℕ
+answerNumber check.Accepted = 0
+answerNumber (check.Refused w) = refusalNumber w
+
+abbrev pub answerPlace : FormatCheck → ℕ
+answerPlace check.Accepted = 0
+answerPlace (check.Refused w) = refusalPlace w
+
+-- a text of the grammar, with its ranges and its size kept: the first n entries of a hold its items, the characters of
+-- their literals are among the first c of t, and their size is k
+pub record ItemsHeld (s a t : List ℕ) (n k : ℕ) : Type 0 where
+  pub items : Items
+  pub accepts : checkGrammar (reading s) ≡ accepted items
+  pub c : ℕ
+  pub holds : Holds a t c 4 0 items n
+  pub ranges : AllWithin (numbers items)
+  pub sized : k ≡ size items
+  pub small : k ≤ 4096
+
+abbrev pub itemsChecked : List ℕ → List ℕ → List ℕ → ItemsChecked → Type 0
+itemsChecked s a t (checked.Items n k) = ItemsHeld s a t n k
+itemsChecked s a t (checked.Refused w) = checkGrammar (reading s) ≡ refused w
