@@ -15,6 +15,7 @@ use Rattle.format_grammar.specs.declared.FormatRefusal.the-variants.{Length, Gr
 use Rattle.format_grammar.proofs.RangeLaws.{nowhere-all}
 use Rattle.format_words.specs.Held.{Held}
 use Rattle.format_run.specs.Sizes.{capped}
+use Rattle.format_run.specs.Runs.{Fits}
 use Rattle.format_read.specs.declared.Position.{Position}
 use Rattle.format_read.specs.Whole.{kept, ItemsRead}
 use Rattle.format_check.specs.declared.FormatCheck.{FormatCheck}
@@ -62,6 +63,11 @@ module _ {s a t : List ℕ} {p : Position} (i : ItemsRead s a t p) where
           sized = omega arith;
           small = g;
         }
+
+-- ---- room for the run of an accepted format
+
+pub items-fit : {s a t : List ℕ} {n k : ℕ} → ItemsHeld s a t n k → (run : List ℕ) → 4096 ≤ length run → Fits a 4 0 n run 0
+items-fit {t} i run h = record { t = t; c = i .c; items = i .items; holds = i .holds; ranges = i .ranges; room = omega (arith, i .sized, i .small) }
 
 -- ---- the answer, its number and its place
 
