@@ -2,11 +2,10 @@
 -- Assumes nothing.
 use mathlib.Core.Path.{_≡_, refl, sym, ap, _∙_}
 use mathlib.Core.List.{List}
-use Prim.Native.Nat.{ℕ, _+_, _-_, _<_, _≤_}
+use Prim.Native.Nat.{ℕ, _-_, _<_, _≤_}
 use native.Mathlib.Omega.{arith}
 use borrow.Author.Tests.{lt-ltb, le-ltb}
 use lib.ListN.{length}
-use Rattle.format_grammar.specs.Items.{Items}
 use Rattle.format_grammar.specs.Ranges.{numbers, FirstOutside, nowhere, at, firstOutside}
 use Rattle.format_grammar.specs.Size.{size}
 use Rattle.format_grammar.specs.Reading.{wrong, reading}

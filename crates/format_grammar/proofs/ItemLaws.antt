@@ -1,9 +1,9 @@
 -- Items after one another: `join`, and what is read off them.
 -- Assumes nothing.
-use mathlib.Core.Path.{_≡_, refl, sym, ap, _∙_}
-use mathlib.Core.List.{_∷_, _++_, append-assoc}
+use mathlib.Core.Path.{_≡_, refl, sym, ap}
+use mathlib.Core.List.{_++_, append-assoc}
 use Rattle.format_grammar.specs.Items.{Items, join}
-use Rattle.format_grammar.specs.Ranges.{Ranged, ranged, repeatNumbers, fieldNumbers, numbers}
+use Rattle.format_grammar.specs.Ranges.{repeatNumbers, fieldNumbers, numbers}
 
 pub join-assoc : (x y z : Items) → join (join x y) z ≡ join x (join y z)
 unfolding join

@@ -13,7 +13,7 @@ use Rattle.format_grammar.specs.Size.{size}
 use Rattle.format_grammar.specs.Met.{Met, repeat, met, fieldValues, hasGroup, fromLastGroup, returnPart, returnIndex}
 use Rattle.format_grammar.specs.Promises.{ReturnsTo, MetIsSize, ReturnPartIs, ReturnIndexIs}
 
-length-repeat : {A : Type 0} (n : ℕ) (xs : List A) → length (repeat n xs) ≡ n * length xs
+pub length-repeat : {A : Type 0} (n : ℕ) (xs : List A) → length (repeat n xs) ≡ n * length xs
 unfolding repeat
 length-repeat zero xs = sym (zero-mul (length xs))
 length-repeat (suc n) xs = rw (length-append xs (repeat n xs), length-repeat n xs) (omega arith)

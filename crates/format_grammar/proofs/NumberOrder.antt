@@ -1,12 +1,12 @@
 -- The numbers of items stand in the text in the order of their list.
 -- Assumes nothing.
-use mathlib.Core.Path.{_≡_, refl, sym, ap}
-use mathlib.Core.List.{List, [], _∷_, _++_, append-assoc}
+use mathlib.Core.List.{List, [], _∷_, _++_}
 use Prim.Native.Nat.{ℕ, _≤_}
 use native.Mathlib.Omega.{arith}
-use Rattle.format_grammar.specs.Items.{Number, Repeat, Field, Items, join}
+use Rattle.format_grammar.specs.Items.{Number, Repeat, Field, Items}
 use Rattle.format_grammar.specs.Grammar.{NumberAt, RepeatAt, FieldAt, Nonterminal, Derives}
-use Rattle.format_grammar.specs.Ranges.{Ranged, ranged, rangeN, repeatNumbers, fieldNumbers, numbers}
+use Rattle.format_grammar.specs.Ranges.{Ranged, ranged, repeatNumbers, fieldNumbers, numbers}
+use Rattle.format_grammar.proofs.ItemLaws.{numbers-join}
 use Rattle.format_grammar.specs.Promises.{InOrder, NumbersInOrder}
 
 -- ---- numbers in order
@@ -32,19 +32,7 @@ append (InOrder.next g n k) h = InOrder.next g n (append k h)
 single : {s : List ℕ} {a c b : ℕ} {n : Number} {low high : ℕ} → a ≤ c → NumberAt s c n b → InOrder s a (ranged n low high ∷ []) b
 single {b} h n = let f : b ≤ b = omega arith in InOrder.next h n (InOrder.none f)
 
--- ---- the numbers of items
-
-numbers-join : (xs ys : Items) → numbers (join xs ys) ≡ numbers xs ++ numbers ys
-unfolding numbers join
-numbers-join Items.none ys = refl
-numbers-join (Items.field r k xs) ys = rw (numbers-join xs ys) (sym (append-assoc (repeatNumbers r ++ fieldNumbers k) (numbers xs) (numbers ys)))
-numbers-join (Items.group r inside xs) ys = rw (numbers-join xs ys) (sym (append-assoc (repeatNumbers r ++ numbers inside) (numbers xs) (numbers ys)))
-numbers-join (Items.X n xs) ys = ap (rangeN n ∷_) (numbers-join xs ys)
-numbers-join (Items.T n xs) ys = ap (rangeN n ∷_) (numbers-join xs ys)
-numbers-join (Items.slash r xs) ys = rw (numbers-join xs ys) (sym (append-assoc (repeatNumbers r) (numbers xs) (numbers ys)))
-numbers-join (Items.literal cs xs) ys = numbers-join xs ys
-
--- ---- the numbers of what is spelt
+-- ---- the numbers of what is derived
 
 of-repeat : {s : List ℕ} {a b : ℕ} {r : Repeat} → RepeatAt s a r b → InOrder s a (repeatNumbers r) b
 of-repeat RepeatAt.absent = no-more (omega arith)

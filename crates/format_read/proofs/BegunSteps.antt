@@ -1,17 +1,15 @@
 -- Items that are neither groups nor literals, from their beginning: the digits, if any, and the byte after them.
 -- Assumes nothing.
 use mathlib.Core.Path.{_≡_, refl, sym, ap, _∙_, subst}
-use mathlib.Core.Bool.{_||_, false}
 use mathlib.Core.List.{List, [], _∷_, _++_, append-nil}
-use Prim.Native.Nat.{ℕ, _+_, _*_, _<_, _≤_}
+use Prim.Native.Nat.{ℕ, _+_, _*_, _<_}
 use native.Mathlib.Omega.{arith}
 use borrow.Author.Tests.{ne-eqb}
-use lib.Dec.{eqb}
 use lib.ListN.{length, getD}
 use Rattle.format_grammar.specs.Items.{number, Repeat, times, Items, join}
 use Rattle.format_grammar.specs.Ranges.{ranged, repeatNumbers, numbers}
 use Rattle.format_grammar.specs.Met.{Met}
-use Rattle.format_grammar.specs.Reading.{Use, Mode, Open, State, wanted, written, begun, readAt}
+use Rattle.format_grammar.specs.Reading.{Use, Mode, Open, State, wanted, written, begun}
 use Rattle.format_words.specs.Words.{metOf}
 use Rattle.format_words.specs.Held.{First}
 use Rattle.format_words.proofs.WordLaws.{met-X, met-slash}

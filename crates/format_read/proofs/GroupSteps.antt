@@ -1,13 +1,13 @@
 -- Groups, and items one after another in brackets.
 -- Assumes nothing.
 use mathlib.Core.Path.{_≡_, refl, sym, ap, _∙_, subst}
-use mathlib.Core.List.{List, [], _++_, append-nil}
+use mathlib.Core.List.{List, _++_, append-nil}
 use Prim.Native.Nat.{ℕ, _+_, _-_, _<_, _≤_}
 use native.Mathlib.Omega.{arith}
 use borrow.Author.Tests.{ne-eqb}
 use lib.ListN.{length, getD, take, set, length-set}
 use lib.Seq.{getD-set-same, getD-set-other, take-set-le, take-take, getD-take}
-use Rattle.format_grammar.specs.Items.{Repeat, times, Items, join}
+use Rattle.format_grammar.specs.Items.{times, Items, join}
 use Rattle.format_grammar.specs.Ranges.{repeatNumbers, numbers}
 use Rattle.format_grammar.specs.Reading.{Mode, Open, State, Reading, step, stepWithin, wanted, close, readAt}
 use Rattle.format_grammar.proofs.ItemLaws.{join-assoc, join-right, numbers-join}
@@ -15,7 +15,7 @@ use Rattle.format_grammar.proofs.ReadLaws.{read-step, read-dead, read-end, clos
 use Rattle.format_words.specs.Words.{word, entry}
 use Rattle.format_words.specs.Held.{GroupEntry, Holds}
 use Rattle.format_words.proofs.WordLaws.{kind-word, first-word, word-entry, repeat-entry}
-use Rattle.format_words.proofs.HeldLaws.{holds-le, holds-join, holds-kept}
+use Rattle.format_words.proofs.HeldLaws.{holds-join, holds-kept}
 use Rattle.format_read.specs.Steps.{outsideAfter, Room, Took, Opened}
 use Rattle.format_read.specs.declared.Position.{Position}
 use Rattle.format_read.proofs.SingleSteps.{outside-append, outside-none}

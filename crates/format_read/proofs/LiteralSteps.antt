@@ -1,7 +1,7 @@
 -- The characters of a literal, one after another.
 -- Assumes nothing.
-use mathlib.Core.Path.{_≡_, refl, sym, ap, _∙_}
-use mathlib.Core.Bool.{Bool, true, false}
+use mathlib.Core.Path.{_≡_, refl, sym, _∙_}
+use mathlib.Core.Bool.{true, false}
 use mathlib.Core.List.{List, [], _∷_, _++_, append-assoc, append-nil}
 use Prim.Native.Nat.{ℕ, _+_, _<_, _≤_}
 use native.Mathlib.Numerals.{add-one}
@@ -10,7 +10,7 @@ use borrow.Author.Tests.{eq-eqb, ne-eqb, le-leb, lt-leb}
 use lib.ListN.{length, getD, take, set, length-append, length-set}
 use lib.Seq.{take-suc-set}
 use Rattle.format_grammar.specs.Items.{Items, join}
-use Rattle.format_grammar.specs.Reading.{Mode, Open, State, Reading, step, stepWithin, isEmpty, readAt}
+use Rattle.format_grammar.specs.Reading.{Mode, Open, State, step, stepWithin, isEmpty, readAt}
 use Rattle.format_grammar.proofs.ReadLaws.{read-step, read-dead, read-end, read-same}
 use Rattle.format_read.specs.Steps.{Stuck, LiteralFound}
 

@@ -1,22 +1,22 @@
 -- Items that are neither groups nor literals: what follows from the numbers found in them.
 -- Assumes nothing.
 use mathlib.Core.Path.{_≡_, refl, sym, ap, _∙_, subst}
-use mathlib.Core.Bool.{Bool, true, false, cond}
+use mathlib.Core.Bool.{Bool, true, false}
 use mathlib.Core.List.{List, [], _∷_, _++_, append-nil}
-use Prim.Native.Nat.{ℕ, _+_, _-_, _*_, _%_, _<_, _≤_}
+use Prim.Native.Nat.{ℕ, _+_, _-_, _*_, _<_, _≤_}
 use native.Mathlib.Nat.{zero-add}
 use native.Mathlib.Omega.{arith}
 use borrow.Author.Tests.{eq-eqb, ne-eqb}
 use lib.Dec.{eqb}
 use lib.ListN.{length, getD}
 use Rattle.format_grammar.specs.Items.{Number, number, valueOf, Repeat, times, Field, Items, join}
-use Rattle.format_grammar.specs.Ranges.{Ranged, ranged, repeatNumbers, numbers}
-use Rattle.format_grammar.specs.Met.{Met}
-use Rattle.format_grammar.specs.Reading.{Use, Mode, Open, State, Reading, pick, step, stepWithin, unlessDead, wanted, written, begun, used, separated, readAt}
+use Rattle.format_grammar.specs.Ranges.{Ranged, ranged, repeatNumbers, fieldNumbers, numbers}
+use Rattle.format_grammar.specs.Met.{Met, fieldValues}
+use Rattle.format_grammar.specs.Reading.{Use, Mode, Open, State, Reading, pick, step, stepWithin, unlessDead, written, used, separated, readAt}
 use Rattle.format_grammar.proofs.ReadLaws.{read-step, read-end, read-same, read-stuck, step-used}
-use Rattle.format_words.specs.Words.{word, kindOf, firstOf, secondOf, metOf}
+use Rattle.format_words.specs.Words.{word, kindOf, metOf}
 use Rattle.format_words.specs.Held.{First}
-use Rattle.format_words.proofs.WordLaws.{met-I, met-F, met-L, met-A, met-Aw, met-X, met-T, met-slash}
+use Rattle.format_words.proofs.WordLaws.{met-I, met-F, met-L, met-A, met-Aw, met-T}
 use Rattle.format_read.specs.Steps.{NumberFound, keepFirst, outsideAfter, ItemRead, Stuck, Ends}
 
 -- ---- numbers out of range
@@ -113,31 +113,26 @@ module _ {s : List ℕ} {at v next : ℕ} (f : NumberFound s at v next) {u : Use
 
 -- ---- what each letter asks for
 
-pub ends-I : (k : Repeat) → Ends (Use.widthI k) k 0 64
+ends-field : (u : Use) (k : Repeat) (kind : ℕ) (f : Number → Field Number) → ((at l : ℕ) (xs : Items) (q : Open) (b : ℕ) → used u Repeat.absent at l xs q b ≡ State.dead)
+    → ((n : Number) (at l : ℕ) (xs : Items) (q : Open) (b : ℕ) → used u (Repeat.given n) at l xs q b ≡ separated at l (join xs (Items.field k (f n) Items.none)) q b)
+    → ((t : List ℕ) (n : Number) → valueOf n < 1024 → metOf t (word kind (valueOf n) 0) ≡ Met.field (fieldValues (f n))) → ((n : Number) → fieldNumbers (f n) ≡ ranged n 1 64 ∷ []) → Ends u k kind 64
 unfolding numbers
-ends-I k =
+ends-field u k kind f needed enough means ns =
     record {
-      item = λ w. Items.field k (Field.I w) Items.none;
-      met = λ w. Met.field (Field.I (valueOf w));
-      needed = λ at l xs q b. refl;
-      enough = λ n at l xs q b. refl;
+      item = λ w. Items.field k (f w) Items.none;
+      met = λ w. Met.field (fieldValues (f w));
+      needed = needed;
+      enough = enough;
       first = λ n. First.field;
-      means = λ t n h. met-I t (valueOf n) h;
-      numbers-are = λ n. append-nil (repeatNumbers k ++ ranged n 1 64 ∷ []);
+      means = means;
+      numbers-are = λ n. append-nil (repeatNumbers k ++ fieldNumbers (f n)) ∙ ap (λ (l : List Ranged). repeatNumbers k ++ l) (ns n);
     }
 
+pub ends-I : (k : Repeat) → Ends (Use.widthI k) k 0 64
+ends-I k = ends-field (Use.widthI k) k 0 Field.I (λ at l xs q b. refl) (λ n at l xs q b. refl) (λ t n. met-I t (valueOf n)) (λ n. refl)
+
 pub ends-L : (k : Repeat) → Ends (Use.widthL k) k 2 64
-unfolding numbers
-ends-L k =
-    record {
-      item = λ w. Items.field k (Field.L w) Items.none;
-      met = λ w. Met.field (Field.L (valueOf w));
-      needed = λ at l xs q b. refl;
-      enough = λ n at l xs q b. refl;
-      first = λ n. First.field;
-      means = λ t n h. met-L t (valueOf n) h;
-      numbers-are = λ n. append-nil (repeatNumbers k ++ ranged n 1 64 ∷ []);
-    }
+ends-L k = ends-field (Use.widthL k) k 2 Field.L (λ at l xs q b. refl) (λ n at l xs q b. refl) (λ t n. met-L t (valueOf n)) (λ n. refl)
 
 pub ends-T : Ends Use.column Repeat.absent 6 255
 unfolding numbers

@@ -2,24 +2,23 @@
 -- Assumes nothing.
 use mathlib.Core.Path.{_≡_, refl, sym, ap, _∙_, subst}
 use mathlib.Core.Bool.{Bool, true, false, _&&_, _||_}
-use mathlib.Core.List.{List, [], _∷_, _++_, append-nil}
+use mathlib.Core.List.{List, [], _++_}
 use Prim.Native.Nat.{ℕ, _+_, _-_, _<_, _≤_}
 use native.Mathlib.Omega.{arith}
-use borrow.Author.Tests.{eq-eqb, ne-eqb, eqb-true, eqb-false}
+use borrow.Author.Tests.{eq-eqb, eqb-true}
 use lib.Dec.{ltb, eqb}
-use lib.ListN.{length, getD, take, drop, set, length-set, length-append}
-use lib.Seq.{getD-set-same, getD-set-other, take-set-le, take-take, take-append-le, drop-at, length-take-le}
-use Rattle.format_grammar.specs.Items.{Repeat, times, Items, join}
-use Rattle.format_grammar.specs.Ranges.{repeatNumbers, numbers}
+use lib.ListN.{length, getD, take, drop, set, length-set}
+use lib.Seq.{getD-set-same, take-set-le, take-take, take-append-le, drop-at, length-take-le}
+use Rattle.format_grammar.specs.Items.{Items}
+use Rattle.format_grammar.specs.Ranges.{numbers}
 use Rattle.format_grammar.specs.Met.{Met}
-use Rattle.format_grammar.specs.Reading.{Use, Mode, Open, State, Reading, step, stepWithin, wanted, close, readAt}
-use Rattle.format_grammar.proofs.ItemLaws.{join-assoc}
-use Rattle.format_grammar.proofs.ReadLaws.{read-step, read-dead, read-end, close-live, step-used}
-use Rattle.format_words.specs.Words.{word, kindOf, firstOf, metOf, reach, entry, wordOf, repeatOf}
-use Rattle.format_words.specs.Held.{First, Single, GroupEntry, Holds}
-use Rattle.format_words.proofs.WordLaws.{kind-word, first-word, word-entry, repeat-entry, met-literal, reach-literal, reach-other}
-use Rattle.format_words.proofs.HeldLaws.{holds-le, holds-join, holds-kept, drop-take}
-use Rattle.format_read.specs.Steps.{outsideAfter, ItemRead, LiteralFound, Room, Took, Opened, Stuck}
+use Rattle.format_grammar.specs.Reading.{Use, Mode, Open, State, Reading, step, stepWithin, wanted, readAt}
+use Rattle.format_grammar.proofs.ReadLaws.{read-step, step-used}
+use Rattle.format_words.specs.Words.{word, kindOf, metOf, reach, entry}
+use Rattle.format_words.specs.Held.{First, Single, Holds}
+use Rattle.format_words.proofs.WordLaws.{kind-word, word-entry, repeat-entry, met-literal, reach-literal, reach-other}
+use Rattle.format_words.proofs.HeldLaws.{drop-take}
+use Rattle.format_read.specs.Steps.{outsideAfter, ItemRead, LiteralFound, Room, Took, Stuck}
 use Rattle.format_read.specs.declared.Position.{Position}
 use Rattle.format_read.proofs.HeadSteps.{other-mark}
 

@@ -5,13 +5,13 @@ use mathlib.Core.Bool.{false, _&&_, cond}
 use mathlib.Core.List.{List, [], _∷_, _++_}
 use Prim.Native.Nat.{ℕ, _+_, _-_, _<_, _≤_}
 use lib.Dec.{ltb, eqb}
-use lib.ListN.{length, getD, take, drop}
+use lib.ListN.{length, getD, take}
 use Rattle.number.specs.Digits.{isDigit}
 use Rattle.format_grammar.specs.Characters.{openingBracket, apostrophe, quotationMark}
 use Rattle.format_grammar.specs.Items.{Number, valueOf, Repeat, times, Items, join}
 use Rattle.format_grammar.specs.Ranges.{Ranged, ranged, outside, place, repeatNumbers, numbers}
 use Rattle.format_grammar.specs.Met.{Met}
-use Rattle.format_grammar.specs.Reading.{Use, Mode, Open, State, Reading, wanted, close, separated, used, readAt}
+use Rattle.format_grammar.specs.Reading.{Use, Mode, Open, State, Reading, wanted, separated, used, readAt}
 use Rattle.format_words.specs.Words.{word, kindOf, metOf}
 use Rattle.format_words.specs.Held.{First, Holds}
 use Rattle.format_read.specs.declared.Position.{Position}

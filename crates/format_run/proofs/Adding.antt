@@ -12,7 +12,7 @@ use Rattle.format_grammar.specs.Size.{size}
 use Rattle.format_words.specs.Words.{kindOf, wordOf, repeatOf}
 use Rattle.format_words.specs.Held.{Holds, Held}
 use Rattle.format_run.specs.Sizes.{capped}
-use Rattle.format_run.proofs.MetLaws.{size-first, size-group}
+use Rattle.format_run.proofs.FirstLaws.{size-group, first-adds}
 use Rattle.format_run.proofs.Views.{endOf, as-group, as-other, none-left}
 
 -- ---- sizes as far as they matter
@@ -81,4 +81,4 @@ module _ {a : List ℕ} {l from to total i : ℕ} (w : Added a l from to total i
         step : (t : List ℕ) (c : ℕ) (xs : Items) → Left a t c l to total i xs → Left a t c l to sum (i + 1) xs
         step t c xs g =
             let v = as-other (g .holds) b e in
-            record { zs = v .next; holds = v .two; sum = omega (arith, g .sum, size-first (v .first)) }
+            record { zs = v .next; holds = v .two; sum = omega (arith, g .sum, first-adds (v .first) .size-is) }

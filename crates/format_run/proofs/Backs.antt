@@ -8,7 +8,8 @@ use Rattle.format_grammar.specs.Items.{Repeat, times, Items}
 use Rattle.format_grammar.specs.Size.{size}
 use Rattle.format_grammar.specs.Met.{Met, hasGroup, fromLastGroup, returnPart, returnIndex}
 use Rattle.format_words.specs.Held.{First}
-use Rattle.format_run.proofs.MetLaws.{met-is-size, size-first, group-first, last-first, size-group}
+use Rattle.format_grammar.proofs.MetLaws.{met-is-size}
+use Rattle.format_run.proofs.FirstLaws.{size-group, first-adds}
 
 last-size : (xs : Items) → size (fromLastGroup xs) ≤ size xs
 unfolding size fromLastGroup
@@ -51,12 +52,12 @@ final-none back m = refl
 
 pub final-first : {xs next : Items} {r : ℕ} {k : Met} (back m e : ℕ)
     → First xs r k next → e ≡ m + r → finalBack back m xs ≡ finalBack back e next
-final-first {xs} {next} {r} back m e f h = rw (group-first f) (go (hasGroup next) refl)
+final-first {xs} {next} {r} back m e f h = rw (first-adds f .group-is) (go (hasGroup next) refl)
   where
     go : (b : Bool) → hasGroup next ≡ b → cond b (m + returnIndex xs) back ≡ cond b (e + returnIndex next) back
     go true q =
-        let p : size (fromLastGroup xs) ≡ size (fromLastGroup next) = ap size (last-first f) in
-        omega (arith, index-some xs (group-first f ∙ q), index-some next q, size-first f, last-size next)
+        let p : size (fromLastGroup xs) ≡ size (fromLastGroup next) = ap size (first-adds f .last-is) in
+        omega (arith, index-some xs (first-adds f .group-is ∙ q), index-some next q, first-adds f .size-is, last-size next)
     go false q = refl
 
 pub final-group : (r : Repeat) (inside next : Items) (back m e : ℕ)

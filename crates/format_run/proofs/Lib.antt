@@ -1,4 +1,4 @@
-pub mod MetLaws
+pub mod FirstLaws
 pub mod Views
 pub mod Adding
 pub mod Repeating

@@ -10,7 +10,7 @@ use lib.ListN.{length, take, drop, getD, set, length-drop, length-set, List·get
 use lib.Seq.{length-take-le, take-all, take-at, take-add, take-suc, take-suc-set, getD-take, getD-append-add}
 use Rattle.format_grammar.specs.Met.{repeat}
 use Rattle.format_run.specs.Runs.{Repeatable, Repeated}
-use Rattle.format_run.proofs.MetLaws.{length-repeat}
+use Rattle.format_grammar.proofs.MetLaws.{length-repeat}
 
 -- ---- a list several times
 

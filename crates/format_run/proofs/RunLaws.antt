@@ -10,7 +10,7 @@ use lib.Seq.{length-take-le, take-take, take-at, take-add, drop-at, take-suc-set
 use Rattle.format_grammar.specs.Met.{Met, repeat}
 use Rattle.format_words.specs.Words.{metOf}
 use Rattle.format_run.specs.Runs.{Repeated, Ran}
-use Rattle.format_run.proofs.MetLaws.{length-repeat}
+use Rattle.format_grammar.proofs.MetLaws.{length-repeat}
 
 pub ran-none : {t run : List ℕ} {n : ℕ} → Ran t run n [] run n
 ran-none {t} {run} {n} = record { words = []; count = omega arith; is = sym (append-nil (take n run)); mean = refl }

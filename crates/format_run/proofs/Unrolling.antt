@@ -14,7 +14,8 @@ use Rattle.format_grammar.specs.Met.{Met, repeat, met, returnIndex}
 use Rattle.format_words.specs.Words.{kindOf, wordOf, repeatOf}
 use Rattle.format_words.specs.Held.{Holds}
 use Rattle.format_run.specs.Runs.{Repeatable, Repeated, Fits, Ran}
-use Rattle.format_run.proofs.MetLaws.{met-is-size, length-repeat, size-first, met-first, repeat-one, few-first, within-first, size-group, met-group, few-group, within-inside, within-next}
+use Rattle.format_grammar.proofs.MetLaws.{met-is-size, length-repeat}
+use Rattle.format_run.proofs.FirstLaws.{repeat-one, few-first, within-first, size-group, met-group, few-group, within-inside, within-next, first-adds}
 use Rattle.format_run.proofs.Views.{endOf, Group, as-group, Other, as-other, none-left}
 use Rattle.format_run.proofs.Repeating.{once-at-most}
 use Rattle.format_run.proofs.RunLaws.{ran-none, ran-one, ran-more, ran-repeat}
@@ -57,7 +58,7 @@ module _ {a : List ℕ} {l i to : ℕ} {run : List ℕ} {e : ℕ} (f : Fits a l 
 
   module _ (o : Other a (f .t) (f .c) l i (f .items) to) where
     pub fits-word : e < length run
-    fits-word = omega (arith, f .room, size-first (o .first), few-first (o .first) (f .ranges))
+    fits-word = omega (arith, f .room, first-adds (o .first) .size-is, few-first (o .first) (f .ranges))
 
     pub fits-word-again : (w : ℕ) → Repeatable (set run e w) e (e + 1) (repeatOf (getD a i 0))
     fits-word-again w =
@@ -68,7 +69,7 @@ module _ {a : List ℕ} {l i to : ℕ} {run : List ℕ} {e : ℕ} (f : Fits a l 
           inside = omega (arith, length-set run e w, fits-word);
           some = s .some;
           few = omega arith;
-          room = rw (d, mul-one) (omega (arith, length-set run e w, f .room, size-first (o .first)));
+          room = rw (d, mul-one) (omega (arith, length-set run e w, f .room, first-adds (o .first) .size-is));
         }
 
 -- ---- the loop: the items from i on are left, those before them are met up to e
@@ -178,7 +179,7 @@ module _ {a : List ℕ} {l from to : ℕ} {run₀ : List ℕ} {n : ℕ} {run : L
               ranges = λ r. within-first (v .first) (g .ranges r);
               done = g .done ++ repeat (repeatOf (getD a i 0)) (v .k ∷ []);
               split = g .split
-                  ∙ rw (met-first (v .first), repeat-one)
+                  ∙ rw (first-adds (v .first) .met-is, repeat-one)
                   (sym (append-assoc (g .done) (replicate (repeatOf (getD a i 0)) (v .k)) (met (v .next))));
               ran = ran-more (g .ran) q;
               final = g .final ∙ final-first back e end (v .first) s;

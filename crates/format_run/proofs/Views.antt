@@ -9,11 +9,7 @@ use Rattle.format_grammar.specs.Items.{Repeat, times, Items}
 use Rattle.format_grammar.specs.Met.{Met}
 use Rattle.format_words.specs.Words.{kindOf, firstOf, wordOf, repeatOf, metOf}
 use Rattle.format_words.specs.Held.{First, Holds}
-
-pub holds-le : {a t : List ℕ} {c l n m : ℕ} {xs : Items} → Holds a t c l n xs m → n ≤ m
-holds-le Holds.none = omega arith
-holds-le (Holds.single f i s h) = omega (arith, holds-le h)
-holds-le (Holds.group i g h k) = omega (arith, holds-le h, holds-le k)
+use Rattle.format_words.proofs.HeldLaws.{holds-le}
 
 -- where a group's entries end
 abbrev pub endOf : List ℕ → ℕ → ℕ

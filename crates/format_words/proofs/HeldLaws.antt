@@ -10,7 +10,7 @@ use native.Mathlib.Decide.{ℕ-discrete}
 use borrow.Author.Tests.{eq-eqb, eqb-false}
 use lib.Dec.{eqb}
 use lib.ListN.{length, getD, take, drop}
-use lib.Seq.{take-take, take-nil, drop-nil}
+use lib.Seq.{take-take, take-nil}
 use Rattle.format_grammar.specs.Items.{times, Items, join}
 use Rattle.format_grammar.specs.Met.{Met}
 use Rattle.format_words.specs.Words.{pickMet, kindOf, firstOf, secondOf, wordOf, metOf, reach}

@@ -6,10 +6,6 @@ use Prim.Native.Nat.{_-_}
 use lib.ListN.{length}
 use Rattle.format_cases.proofs.lines.each_line.Statement.{statement}
 use Rattle.format_cases.proofs.lines.each_line.Tie as tie
-use Rattle.format_cases.proofs.lines.each_line.Reads as reads
-use Rattle.format_cases.proofs.lines.each_line.Lts as lts
-use Rattle.format_cases.proofs.lines.line_end.Reads as line-end-reads
-use Rattle.format_cases.proofs.lines.show_line.Reads as show-line-reads
 
 abbrev Inv-loop : tie.InvT-loop
 Inv-loop text from₀ from = Unit {0}
@@ -17,43 +13,33 @@ Inv-loop text from₀ from = Unit {0}
 abbrev μ-loop : tie.MeasureT-loop
 μ-loop text from₀ from = length text - from
 
--- src/lines.rt:37:5
 loop-holds : tie.Need-loop-holds Inv-loop μ-loop
 loop-holds c = tt
 
--- src/lines.rt:38:13
 line-end-requires : tie.Need-line-end-requires Inv-loop μ-loop
 line-end-requires c κs = omega arith
 
--- src/lines.rt:39:19
 sub-show-line : tie.Need-sub-show-line Inv-loop μ-loop
 sub-show-line c = c .line-end .ensures .0
 
--- src/lines.rt:39:19
 part-show-line-start : tie.Need-part-show-line-start Inv-loop μ-loop
 part-show-line-start c = search needs
 
--- src/lines.rt:39:19
 part-show-line-end : tie.Need-part-show-line-end Inv-loop μ-loop
 part-show-line-end c = search needs
 
--- src/lines.rt:39:9
 show-line-requires : tie.Need-show-line-requires Inv-loop μ-loop
 show-line-requires c κs = search needs
 
--- src/lines.rt:40:16
 add-from : tie.Need-add-from Inv-loop μ-loop
 add-from c = omega arith
 
--- src/lines.rt:37:5
 loop-less : tie.Need-loop-less Inv-loop μ-loop
 loop-less c = omega (arith, c .before .before .line-end .ensures .0)
 
--- src/lines.rt:37:5
 loop-again : tie.Need-loop-again Inv-loop μ-loop
 loop-again c = tt
 
--- src/lines.rt:35:1
 returns : tie.Need-returns Inv-loop μ-loop
 returns c = tt
 

@@ -6,102 +6,72 @@ use Rattle.format_check.proofs.CheckSteps.{items-fit}
 use borrow.Author.Needs.{needs}
 use Rattle.format_cases.proofs.runs.show_items.Statement.{statement}
 use Rattle.format_cases.proofs.runs.show_items.Tie as tie
-use Rattle.format_cases.proofs.runs.show_items.Reads as reads
-use Rattle.format_cases.proofs.runs.show_items.Lts as lts
-use Rattle.format_cases.proofs.runs.empty_run.Reads as empty-run-reads
-use Rattle.format_cases.proofs.runs.lettered.Reads as lettered-reads
-use Rattle.format_cases.proofs.runs.show_words.Reads as show-words-reads
-use Rattle.format_check.proofs.items.check_items.Reads as check-items-reads
-use Rattle.format_run.proofs.unroll.unroll.Reads as unroll-reads
-use Rattle.io.proofs.write_all.Reads as write-all-reads
 
--- src/runs.rt:89:19
 empty-run-requires : tie.Need-empty-run-requires
 empty-run-requires c κs = search needs
 
--- src/runs.rt:90:31
 slice-aggregate-check-items : tie.Need-slice-aggregate-check-items
 slice-aggregate-check-items c = search needs
 
--- src/runs.rt:90:45
 slice-aggregate-check-items-2 : tie.Need-slice-aggregate-check-items-2
 slice-aggregate-check-items-2 c = search needs
 
--- src/runs.rt:90:11
 check-items-requires : tie.Need-check-items-requires
 check-items-requires c κs = search needs
 
--- src/runs.rt:92:42
 enum-told : tie.Need-enum-told
 enum-told c = search needs
 
--- src/runs.rt:92:42
 slice-aggregate-write-all : tie.Need-slice-aggregate-write-all
 slice-aggregate-write-all c = search needs
 
--- src/runs.rt:92:13
 write-all-requires : tie.Need-write-all-requires
 write-all-requires c κs = search needs
 
--- src/runs.rt:94:40
 enum-known-n : tie.Need-enum-known-n
 enum-known-n c = search needs
 
--- src/runs.rt:95:28
 slice-aggregate-unroll : tie.Need-slice-aggregate-unroll
 slice-aggregate-unroll c = search needs
 
--- src/runs.rt:95:47
 slice-aggregate-unroll-2 : tie.Need-slice-aggregate-unroll-2
 slice-aggregate-unroll-2 c = search needs
 
--- src/runs.rt:95:17
 unroll-requires : tie.Need-unroll-requires
 unroll-requires c κs = items-fit (rw (c .before .before .before .n .given .1) at (c .before .before .before .before .before .before .before .check-items .ensures)) _ (omega (arith, c .before .before .before .before .before .before .before .before .before .before .empty-run .ensures))
 
--- src/runs.rt:96:22
 slice-aggregate-lettered : tie.Need-slice-aggregate-lettered
 slice-aggregate-lettered c = search needs
 
--- src/runs.rt:96:13
 lettered-requires : tie.Need-lettered-requires
 lettered-requires c κs = search needs
 
--- src/runs.rt:97:22
 slice-aggregate-lettered-2 : tie.Need-slice-aggregate-lettered-2
 slice-aggregate-lettered-2 c = search needs
 
--- src/runs.rt:97:13
 lettered-requires-2 : tie.Need-lettered-requires-2
 lettered-requires-2 c κs = search needs
 
--- src/runs.rt:98:42
 slice-aggregate-write-all-2 : tie.Need-slice-aggregate-write-all-2
 slice-aggregate-write-all-2 c = search needs
 
--- src/runs.rt:98:13
 write-all-requires-2 : tie.Need-write-all-requires-2
 write-all-requires-2 c κs = search needs
 
--- src/runs.rt:99:24
 slice-aggregate-show-words : tie.Need-slice-aggregate-show-words
 slice-aggregate-show-words c = search needs
 
--- src/runs.rt:99:37
 slice-aggregate-show-words-2 : tie.Need-slice-aggregate-show-words-2
 slice-aggregate-show-words-2 c = search needs
 
--- src/runs.rt:99:13
 show-words-requires : tie.Need-show-words-requires
 show-words-requires c κs = let i = rw (c .before .before .before .before .before .before .before .before .before .before .before .before .before .n .given .1) at (c .before .before .before .before .before .before .before .before .before .before .before .before .before .before .before .before .before .check-items .ensures) in
     let ran = c .before .before .before .before .before .before .before .before .before .unroll .ensures .0 _ _ (i .items) (i .holds) in
     omega (arith, ran .count, met-is-size (i .items), i .sized, i .small, c .before .before .before .before .before .before .before .before .before .unroll .kept .1 .1 .1 .1 .0, c .before .before .before .before .before .before .before .before .before .before .before .before .before .before .before .before .before .before .before .before .empty-run .ensures)
 
--- src/runs.rt:84:1
 returns : tie.Need-returns
 returns c = search needs
 
--- src/runs.rt:84:1
 returns-2 : tie.Need-returns-2
 returns-2 c = search needs
 

@@ -5,10 +5,6 @@ use borrow.Author.Needs.{needs}
 use Prim.Native.Nat.{_-_, _≤_}
 use Rattle.format_cases.proofs.runs.show_words.Statement.{statement}
 use Rattle.format_cases.proofs.runs.show_words.Tie as tie
-use Rattle.format_cases.proofs.runs.show_words.Reads as reads
-use Rattle.format_cases.proofs.runs.show_words.Lts as lts
-use Rattle.format_cases.proofs.runs.show_word.Reads as show-word-reads
-use Rattle.io.proofs.write_all.Reads as write-all-reads
 
 abbrev Inv-loop : tie.InvT-loop
 Inv-loop run n chars i₀ t5 i = i ≤ n
@@ -16,43 +12,33 @@ Inv-loop run n chars i₀ t5 i = i ≤ n
 abbrev μ-loop : tie.MeasureT-loop
 μ-loop run n chars i₀ t5 i = n - i
 
--- src/runs.rt:69:5
 loop-holds : tie.Need-loop-holds Inv-loop μ-loop
 loop-holds c = omega arith
 
--- src/runs.rt:70:19
 mul-show-word : tie.Need-mul-show-word Inv-loop μ-loop
 mul-show-word c = omega arith
 
--- src/runs.rt:70:19
 shared-slice-read-show-word : tie.Need-shared-slice-read-show-word Inv-loop μ-loop
 shared-slice-read-show-word c = omega arith
 
--- src/runs.rt:70:9
 show-word-requires : tie.Need-show-word-requires Inv-loop μ-loop
 show-word-requires c κs = search needs
 
--- src/runs.rt:71:9
 add-i : tie.Need-add-i Inv-loop μ-loop
 add-i c = omega arith
 
--- src/runs.rt:69:5
 loop-less : tie.Need-loop-less Inv-loop μ-loop
 loop-less c = omega arith
 
--- src/runs.rt:69:5
 loop-again : tie.Need-loop-again Inv-loop μ-loop
 loop-again c = omega arith
 
--- src/runs.rt:73:34
 slice-aggregate-write-all : tie.Need-slice-aggregate-write-all Inv-loop μ-loop
 slice-aggregate-write-all c = search needs
 
--- src/runs.rt:73:5
 write-all-requires : tie.Need-write-all-requires Inv-loop μ-loop
 write-all-requires c κs = search needs
 
--- src/runs.rt:65:1
 returns : tie.Need-returns Inv-loop μ-loop
 returns c = tt
 

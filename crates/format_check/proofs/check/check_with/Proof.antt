@@ -5,43 +5,31 @@ use Rattle.format_check.specs.Checked.{answer}
 use borrow.Author.Needs.{needs}
 use Rattle.format_check.proofs.check.check_with.Statement.{statement}
 use Rattle.format_check.proofs.check.check_with.Tie as tie
-use Rattle.format_check.proofs.check.check_with.Reads as reads
-use Rattle.format_check.proofs.check.check_with.Lts as lts
-use Rattle.format_check.proofs.items.check_items.Reads as check-items-reads
 
--- src/check.rt:21:11
 check-items-requires : tie.Need-check-items-requires
 check-items-requires c κs = search needs
 
--- src/check.rt:22:31
 enum-known-refusal : tie.Need-enum-known-refusal
 enum-known-refusal c = search needs
 
--- src/check.rt:23:56
 enum-told : tie.Need-enum-told
 enum-told c = search needs
 
--- src/check.rt:17:1
 same-length : tie.Need-same-length
 same-length c = search needs
 
--- src/check.rt:17:1
 same-length-2 : tie.Need-same-length-2
 same-length-2 c = search needs
 
--- src/check.rt:17:1
 returns : tie.Need-returns
 returns c = ap answer (sym (rw (c .before .refusal .given .1) at (c .before .before .before .before .before .before .before .check-items .ensures)))
 
--- src/check.rt:17:1
 same-length-3 : tie.Need-same-length-3
 same-length-3 c = search needs
 
--- src/check.rt:17:1
 same-length-4 : tie.Need-same-length-4
 same-length-4 c = search needs
 
--- src/check.rt:17:1
 returns-2 : tie.Need-returns-2
 returns-2 c = let i = rw (c .enum-told .given .1) at (c .before .before .before .before .before .before .check-items .ensures) in ap answer (sym (i .accepts))
 

@@ -4,76 +4,55 @@ use Rattle.format_check.proofs.CheckSteps.{row-grammar, row-range, row-
 use borrow.Author.Needs.{needs}
 use Rattle.format_check.proofs.items.check_items.Statement.{statement}
 use Rattle.format_check.proofs.items.check_items.Tie as tie
-use Rattle.format_check.proofs.items.check_items.Reads as reads
-use Rattle.format_check.proofs.items.check_items.Lts as lts
-use Rattle.format_read.proofs.format.read_format.Reads as read-format-reads
-use Rattle.format_run.proofs.size.size_of.Reads as size-of-reads
 
--- src/items.rt:20:11
 read-format-requires : tie.Need-read-format-requires
 read-format-requires c κs = search needs
 
--- src/items.rt:21:25
 enum-known-place : tie.Need-enum-known-place
 enum-known-place c = search needs
 
--- src/items.rt:22:22
 enum-known-end : tie.Need-enum-known-end
 enum-known-end c = search needs
 
--- src/items.rt:25:28
 sub-t16 : tie.Need-sub-t16
 sub-t16 c = search needs
 
--- src/items.rt:24:17
 same-length : tie.Need-same-length
 same-length c = search needs
 
--- src/items.rt:24:17
 same-length-2 : tie.Need-same-length-2
 same-length-2 c = search needs
 
--- src/items.rt:24:17
 returns : tie.Need-returns
 returns c = row-range (rw (c .before .before .before .before .end .given .1) at (c .before .before .before .before .before .before .before .before .before .before .read-format .ensures)) (c .before .if1 .taken)
 
--- src/items.rt:29:17
 size-of-requires : tie.Need-size-of-requires
 size-of-requires c κs = held (rw (c .before .before .before .before .end .given .1) at (c .before .before .before .before .before .before .before .before .before .before .read-format .ensures))
 
--- src/items.rt:31:17
 same-length-3 : tie.Need-same-length-3
 same-length-3 c = search needs
 
--- src/items.rt:31:17
 same-length-4 : tie.Need-same-length-4
 same-length-4 c = search needs
 
--- src/items.rt:31:17
 returns-2 : tie.Need-returns-2
 returns-2 c = let i = rw (c .before .before .before .before .before .before .end .given .1) at (c .before .before .before .before .before .before .before .before .before .before .before .before .read-format .ensures) in row-size i (c .before .before .before .if1 .left) _ (c .before .size-of .ensures .0 _ _ (i .read) (i .holds)) (c .if2 .taken)
 
--- src/items.rt:16:1
 same-length-5 : tie.Need-same-length-5
 same-length-5 c = search needs
 
--- src/items.rt:16:1
 same-length-6 : tie.Need-same-length-6
 same-length-6 c = search needs
 
--- src/items.rt:16:1
 returns-3 : tie.Need-returns-3
 returns-3 c = row-grammar _ _ (rw (c .before .place .given .1) at (c .before .before .before .before .before .before .before .read-format .ensures))
 
--- src/items.rt:16:1
 same-length-7 : tie.Need-same-length-7
 same-length-7 c = search needs
 
--- src/items.rt:16:1
 same-length-8 : tie.Need-same-length-8
 same-length-8 c = search needs
 
--- src/items.rt:16:1
 returns-4 : tie.Need-returns-4
 returns-4 c = let i = rw (c .before .before .before .before .before .before .end .given .1) at (c .before .before .before .before .before .before .before .before .before .before .before .before .read-format .ensures) in row-none i (c .before .before .before .if1 .left) _ (c .before .size-of .ensures .0 _ _ (i .read) (i .holds)) (c .if2 .left)
 

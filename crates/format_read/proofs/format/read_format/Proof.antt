@@ -5,67 +5,49 @@ use Rattle.format_read.proofs.WholeSteps.{whole-empty, whole-other, who
 use borrow.Author.Needs.{needs}
 use Rattle.format_read.proofs.format.read_format.Statement.{statement}
 use Rattle.format_read.proofs.format.read_format.Tie as tie
-use Rattle.format_read.proofs.format.read_format.Reads as reads
-use Rattle.format_read.proofs.format.read_format.Lts as lts
-use Rattle.format_read.proofs.items.read_items.Reads as read-items-reads
 
--- src/format.rt:15:9
 returns : tie.Need-returns
 returns c = whole-empty _ (omega (arith, c .if1 .taken))
 
--- src/format.rt:17:8
 shared-slice-read-if2 : tie.Need-shared-slice-read-if2
 shared-slice-read-if2 c = search needs
 
--- src/format.rt:18:9
 returns-2 : tie.Need-returns-2
 returns-2 c = whole-other _ (omega (arith, c .before .before .if1 .left)) (c .if2 .taken)
 
--- src/format.rt:26:11
 read-items-requires : tie.Need-read-items-requires
 read-items-requires c κs = search needs
 
--- src/format.rt:27:25
 enum-known-place : tie.Need-enum-known-place
 enum-known-place c = search needs
 
--- src/format.rt:28:22
 enum-known-after : tie.Need-enum-known-after
 enum-known-after c = search needs
 
--- src/format.rt:31:17
 same-length : tie.Need-same-length
 same-length c = search needs
 
--- src/format.rt:31:17
 same-length-2 : tie.Need-same-length-2
 same-length-2 c = search needs
 
--- src/format.rt:31:17
 returns-3 : tie.Need-returns-3
 returns-3 c = whole-more _ (omega (arith, c .before .before .before .before .before .before .before .before .before .before .before .before .before .if1 .left)) (c .before .before .before .before .before .before .before .before .before .before .before .if2 .left) (rw (c .before .before .after .given .1) at (c .before .before .before .before .before .before .before .before .read-items .ensures)) (c .if3 .taken)
 
--- src/format.rt:10:1
 same-length-3 : tie.Need-same-length-3
 same-length-3 c = search needs
 
--- src/format.rt:10:1
 same-length-4 : tie.Need-same-length-4
 same-length-4 c = search needs
 
--- src/format.rt:10:1
 returns-4 : tie.Need-returns-4
 returns-4 c = whole-wrong _ (omega (arith, c .before .before .before .before .before .before .before .before .before .before .before .before .if1 .left)) (c .before .before .before .before .before .before .before .before .before .before .if2 .left) (rw (c .before .place .given .1) at (c .before .before .before .before .before .before .before .read-items .ensures))
 
--- src/format.rt:10:1
 same-length-5 : tie.Need-same-length-5
 same-length-5 c = search needs
 
--- src/format.rt:10:1
 same-length-6 : tie.Need-same-length-6
 same-length-6 c = search needs
 
--- src/format.rt:10:1
 returns-5 : tie.Need-returns-5
 returns-5 c = whole-read _ (omega (arith, c .before .before .before .before .before .before .before .before .before .before .before .before .before .if1 .left)) (c .before .before .before .before .before .before .before .before .before .before .before .if2 .left) (rw (c .before .before .after .given .1) at (c .before .before .before .before .before .before .before .before .read-items .ensures)) (c .if3 .left)
 

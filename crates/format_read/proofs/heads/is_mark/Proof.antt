@@ -3,14 +3,10 @@
 use borrow.Author.Tests.{eq-eqb, ne-eqb}
 use Rattle.format_read.proofs.heads.is_mark.Statement.{statement}
 use Rattle.format_read.proofs.heads.is_mark.Tie as tie
-use Rattle.format_read.proofs.heads.is_mark.Reads as reads
-use Rattle.format_read.proofs.heads.is_mark.Lts as lts
 
--- src/heads.rt:23:1
 returns : tie.Need-returns
 returns c = simp (eq-eqb (c .before .args .b) 39 (c .if1 .taken))
 
--- src/heads.rt:23:1
 returns-2 : tie.Need-returns-2
 returns-2 c = simp (ne-eqb (c .before .args .b) 39 (c .if1 .left))
 

@@ -5,75 +5,55 @@ use Rattle.format_read.proofs.TakeSteps.{took-literal, literal-wrong}
 use borrow.Author.Needs.{needs}
 use Rattle.format_read.proofs.heads.read_literal_item.Statement.{statement}
 use Rattle.format_read.proofs.heads.read_literal_item.Tie as tie
-use Rattle.format_read.proofs.heads.read_literal_item.Reads as reads
-use Rattle.format_read.proofs.heads.read_literal_item.Lts as lts
-use Rattle.format_read.proofs.entry.put_entry.Reads as put-entry-reads
-use Rattle.format_read.proofs.literals.read_literal.Reads as read-literal-reads
 
--- src/heads.rt:38:30
 add-read-literal : tie.Need-add-read-literal
 add-read-literal c = omega arith
 
--- src/heads.rt:38:11
 read-literal-requires : tie.Need-read-literal-requires
 read-literal-requires c κs = let s = c .before .before .before .before in (omega (arith, s .pre .1 .0), omega (arith, s .pre .0 .0 .few-chars), s .pre .0 .1, s .pre .0 .0 .short)
 
--- src/heads.rt:39:26
 enum-known-place : tie.Need-enum-known-place
 enum-known-place c = search needs
 
--- src/heads.rt:40:25
 enum-known-next : tie.Need-enum-known-next
 enum-known-next c = search needs
 
--- src/heads.rt:44:20
 sub-put-entry : tie.Need-sub-put-entry
 sub-put-entry c = let f = rw (c .before .before .next .given .1) at (c .before .before .before .before .before .before .read-literal .ensures) in omega (arith, f .end-is)
 
--- src/heads.rt:44:18
 mul-put-entry : tie.Need-mul-put-entry
 mul-put-entry c = let f = rw (c .before .before .next .given .1) at (c .before .before .before .before .before .before .read-literal .ensures) in omega (arith, f .room, f .high, c .before .before .before .before .before .before .before .before .before .before .before .pre .0 .0 .short)
 
--- src/heads.rt:44:18
 add-put-entry : tie.Need-add-put-entry
 add-put-entry c = let f = rw (c .before .before .next .given .1) at (c .before .before .before .before .before .before .read-literal .ensures) in omega (arith, f .room, f .high, c .before .before .before .before .before .before .before .before .before .before .before .pre .0 .0 .short, c .before .before .before .before .before .before .before .before .before .before .before .pre .0 .0 .few-chars, c .before .before .before .before .before .before .before .before .before .before .before .pre .0 .0 .within)
 
--- src/heads.rt:44:17
 mul-put-entry-2 : tie.Need-mul-put-entry-2
 mul-put-entry-2 c = let f = rw (c .before .before .next .given .1) at (c .before .before .before .before .before .before .read-literal .ensures) in omega (arith, f .room, f .high, c .before .before .before .before .before .before .before .before .before .before .before .pre .0 .0 .short, c .before .before .before .before .before .before .before .before .before .before .before .pre .0 .0 .few-chars, c .before .before .before .before .before .before .before .before .before .before .before .pre .0 .0 .within)
 
--- src/heads.rt:44:17
 add-put-entry-2 : tie.Need-add-put-entry-2
 add-put-entry-2 c = let f = rw (c .before .before .next .given .1) at (c .before .before .before .before .before .before .read-literal .ensures) in omega (arith, f .room, f .high, c .before .before .before .before .before .before .before .before .before .before .before .pre .0 .0 .short, c .before .before .before .before .before .before .before .before .before .before .before .pre .0 .0 .few-chars, c .before .before .before .before .before .before .before .before .before .before .before .pre .0 .0 .within)
 
--- src/heads.rt:41:13
 put-entry-requires : tie.Need-put-entry-requires
 put-entry-requires c κs = let f = rw (c .before .before .next .given .1) at (c .before .before .before .before .before .before .read-literal .ensures) in
     let room = c .before .before .before .before .before .before .before .before .before .before .before .pre .0 .0 in
     (omega (arith, room .few-entries, room .entries-fit, c .before .before .before .before .before .before .before .before .before .before .before .pre .1 .0), omega (arith, f .room, f .high, room .short, room .few-chars, room .within), omega arith)
 
--- src/heads.rt:49:26
 add-t20 : tie.Need-add-t20
 add-t20 c = omega (arith, c .before .before .before .before .before .before .before .before .before .before .before .before .before .before .pre .0 .0 .few-entries, c .before .before .before .before .before .before .before .before .before .before .before .before .before .before .pre .0 .0 .within, c .before .before .before .before .before .before .before .before .before .before .before .before .before .before .pre .0 .0 .short)
 
--- src/heads.rt:30:1
 same-length : tie.Need-same-length
 same-length c = search needs
 
--- src/heads.rt:30:1
 returns : tie.Need-returns
 returns c = let st = rw (c .before .place .given .1) at (c .before .before .before .before .before .read-literal .ensures) in
     let s = c .before .before .before .before .before .before .before .before .before .before in λ l. literal-wrong _ _ _ _ (s .pre .1 .0) (s .pre .1 .1) (s .pre .1 .2) st l
 
--- src/heads.rt:30:1
 same-length-2 : tie.Need-same-length-2
 same-length-2 c = search needs
 
--- src/heads.rt:30:1
 same-length-3 : tie.Need-same-length-3
 same-length-3 c = search needs
 
--- src/heads.rt:30:1
 returns-2 : tie.Need-returns-2
 returns-2 c = let f = rw (c .before .before .before .before .before .next .given .1) at (c .before .before .before .before .before .before .before .before .before .read-literal .ensures) in
     let s = c .before .before .before .before .before .before .before .before .before .before .before .before .before .before in λ l. took-literal (s .pre .0 .0) (s .pre .0 .1) f (s .pre .1 .0) (s .pre .1 .1) (s .pre .1 .2) l _ (c .before .before .put-entry .ensures)

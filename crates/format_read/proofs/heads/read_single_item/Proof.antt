@@ -5,42 +5,30 @@ use Rattle.format_read.proofs.TakeSteps.{took-single}
 use borrow.Author.Needs.{needs}
 use Rattle.format_read.proofs.heads.read_single_item.Statement.{statement}
 use Rattle.format_read.proofs.heads.read_single_item.Tie as tie
-use Rattle.format_read.proofs.heads.read_single_item.Reads as reads
-use Rattle.format_read.proofs.heads.read_single_item.Lts as lts
-use Rattle.format_read.proofs.entry.put_entry.Reads as put-entry-reads
-use Rattle.format_read.proofs.singles.read_single.Reads as read-single-reads
 
--- src/heads.rt:66:11
 read-single-requires : tie.Need-read-single-requires
 read-single-requires c κs = (c .before .before .pre .1 .0, (c .before .before .pre .1 .1 .0, c .before .before .pre .0 .short, c .before .before .pre .1 .1 .1))
 
--- src/heads.rt:67:25
 enum-known-place : tie.Need-enum-known-place
 enum-known-place c = search needs
 
--- src/heads.rt:69:13
 enum-known-word : tie.Need-enum-known-word
 enum-known-word c = search needs
 
--- src/heads.rt:74:13
 put-entry-requires : tie.Need-put-entry-requires
 put-entry-requires c κs = let i = rw (c .before .before .word .given .1) at (c .before .before .before .before .read-single .ensures) in
     let room = c .before .before .before .before .before .before .before .pre .0 in
     (omega (arith, room .few-entries, room .entries-fit, i .more, i .high), i .low-word, omega (arith, i .few))
 
--- src/heads.rt:77:26
 add-t18 : tie.Need-add-t18
 add-t18 c = omega (arith, c .before .before .before .before .before .before .before .before .before .before .pre .0 .few-entries, c .before .before .before .before .before .before .before .before .before .before .pre .0 .within, c .before .before .before .before .before .before .before .before .before .before .pre .0 .short)
 
--- src/heads.rt:58:1
 returns : tie.Need-returns
 returns c = let k = rw (c .before .place .given .1) at (c .before .before .before .read-single .ensures) in λ l t xs q. k l xs q
 
--- src/heads.rt:58:1
 same-length : tie.Need-same-length
 same-length c = search needs
 
--- src/heads.rt:58:1
 returns-2 : tie.Need-returns-2
 returns-2 c = let i = rw (c .before .before .before .before .before .word .given .1) at (c .before .before .before .before .before .before .before .read-single .ensures) in λ l t. took-single (c .before .before .before .before .before .before .before .before .before .before .pre .0) i (c .before .before .put-entry .ensures) t
 

@@ -1,6 +1,6 @@
 -- `format_read::items::read_item` and `format_read::items::read_items` meet their contracts.
 -- Assumes nothing.
-use mathlib.Core.Path.{_≡_, refl, sym, ap, _∙_}
+use mathlib.Core.Path.{_∙_}
 use Prim.Native.Nat.{_+_, _-_, _*_}
 use native.Mathlib.Omega.{arith}
 use borrow.Author.Needs.{needs}
@@ -43,70 +43,28 @@ abbrev read-items-below : ℕ → In 3 read-items-kinds.ps
 read-items-below t =
     and 3 read-items-kinds.ps (falls 3 read-items-kinds.ps _<_ μ-read-items t) read-items.Pre
 
--- src/items.rt:35:11
-read-item-read-head-requires : (t : ℕ) → read-item-lts.Need-read-head-requires (
-  read-head-reads.Asked,
-  read-head-reads.Learnt,
-  read-items-below t,
-  read-items.Post,
-  put-group-reads.Asked,
-  put-group-reads.Learnt,
-) (read-item-at t) read-item.Post
+abbrev read-item-claims : ℕ → read-item-lts.Claims
+read-item-claims t = (read-head-reads.Asked, read-head-reads.Learnt, read-items-below t, read-items.Post, put-group-reads.Asked, put-group-reads.Learnt)
+
+abbrev read-items-claims : ℕ → read-items-lts.Claims
+read-items-claims t = (read-item-below t, read-item.Post)
+
+read-item-read-head-requires : (t : ℕ) → read-item-lts.Need-read-head-requires (read-item-claims t) (read-item-at t) read-item.Post
 read-item-read-head-requires t c κs = c .before .before .before .before .before .pre .1
 
--- src/items.rt:36:23
-read-item-enum-known-place : (t : ℕ) → read-item-lts.Need-enum-known-place (
-  read-head-reads.Asked,
-  read-head-reads.Learnt,
-  read-items-below t,
-  read-items.Post,
-  put-group-reads.Asked,
-  put-group-reads.Learnt,
-) (read-item-at t) read-item.Post
+read-item-enum-known-place : (t : ℕ) → read-item-lts.Need-enum-known-place (read-item-claims t) (read-item-at t) read-item.Post
 read-item-enum-known-place t c = search needs
 
--- src/items.rt:37:21
-read-item-enum-known-after : (t : ℕ) → read-item-lts.Need-enum-known-after (
-  read-head-reads.Asked,
-  read-head-reads.Learnt,
-  read-items-below t,
-  read-items.Post,
-  put-group-reads.Asked,
-  put-group-reads.Learnt,
-) (read-item-at t) read-item.Post
+read-item-enum-known-after : (t : ℕ) → read-item-lts.Need-enum-known-after (read-item-claims t) (read-item-at t) read-item.Post
 read-item-enum-known-after t c = search needs
 
--- src/items.rt:38:23
-read-item-enum-known-inside : (t : ℕ) → read-item-lts.Need-enum-known-inside (
-  read-head-reads.Asked,
-  read-head-reads.Learnt,
-  read-items-below t,
-  read-items.Post,
-  put-group-reads.Asked,
-  put-group-reads.Learnt,
-) (read-item-at t) read-item.Post
+read-item-enum-known-inside : (t : ℕ) → read-item-lts.Need-enum-known-inside (read-item-claims t) (read-item-at t) read-item.Post
 read-item-enum-known-inside t c = search needs
 
--- src/items.rt:41:13
-read-item-sub-read-items : (t : ℕ) → read-item-lts.Need-sub-read-items (
-  read-head-reads.Asked,
-  read-head-reads.Learnt,
-  read-items-below t,
-  read-items.Post,
-  put-group-reads.Asked,
-  put-group-reads.Learnt,
-) (read-item-at t) read-item.Post
+read-item-sub-read-items : (t : ℕ) → read-item-lts.Need-sub-read-items (read-item-claims t) (read-item-at t) read-item.Post
 read-item-sub-read-items t c = let o = rw (c .before .inside .given .1) at (c .before .before .before .before .before .before .before .read-head .ensures) in omega (arith, o .deep)
 
--- src/items.rt:38:49
-read-item-read-items-requires : (t : ℕ) → read-item-lts.Need-read-items-requires (
-  read-head-reads.Asked,
-  read-head-reads.Learnt,
-  read-items-below t,
-  read-items.Post,
-  put-group-reads.Asked,
-  put-group-reads.Learnt,
-) (read-item-at t) read-item.Post
+read-item-read-items-requires : (t : ℕ) → read-item-lts.Need-read-items-requires (read-item-claims t) (read-item-at t) read-item.Post
 read-item-read-items-requires t c κs = let o = rw (c .before .before .before .inside .given .1) at (c .before .before .before .before .before .before .before .before .before .read-head .ensures) in
     let room = c .before .before .before .before .before .before .before .before .before .before .before .before .before .before .before .pre .1 .0 in
     let kept = c .before .before .before .before .before .before .before .before .before .read-head .kept .1 .1 .1 in (
@@ -117,173 +75,53 @@ read-item-read-items-requires t c κs = let o = rw (c .before .before .before .i
       ),
     )
 
--- src/items.rt:45:29
-read-item-enum-known-place-2 : (t : ℕ) → read-item-lts.Need-enum-known-place-2 (
-  read-head-reads.Asked,
-  read-head-reads.Learnt,
-  read-items-below t,
-  read-items.Post,
-  put-group-reads.Asked,
-  put-group-reads.Learnt,
-) (read-item-at t) read-item.Post
+read-item-enum-known-place-2 : (t : ℕ) → read-item-lts.Need-enum-known-place-2 (read-item-claims t) (read-item-at t) read-item.Post
 read-item-enum-known-place-2 t c = search needs
 
--- src/items.rt:46:26
-read-item-enum-known-after-2 : (t : ℕ) → read-item-lts.Need-enum-known-after-2 (
-  read-head-reads.Asked,
-  read-head-reads.Learnt,
-  read-items-below t,
-  read-items.Post,
-  put-group-reads.Asked,
-  put-group-reads.Learnt,
-) (read-item-at t) read-item.Post
+read-item-enum-known-after-2 : (t : ℕ) → read-item-lts.Need-enum-known-after-2 (read-item-claims t) (read-item-at t) read-item.Post
 read-item-enum-known-after-2 t c = search needs
 
--- src/items.rt:47:17
-read-item-put-group-requires : (t : ℕ) → read-item-lts.Need-put-group-requires (
-  read-head-reads.Asked,
-  read-head-reads.Learnt,
-  read-items-below t,
-  read-items.Post,
-  put-group-reads.Asked,
-  put-group-reads.Learnt,
-) (read-item-at t) read-item.Post
+read-item-put-group-requires : (t : ℕ) → read-item-lts.Need-put-group-requires (read-item-claims t) (read-item-at t) read-item.Post
 read-item-put-group-requires t c κs = let o = rw (c .before .before .before .before .before .before .before .before .before .before .before .before .inside .given .1) at (c .before .before .before .before .before .before .before .before .before .before .before .before .before .before .before .before .before .before .read-head .ensures) in
     let k = rw (c .before .before .after2 .given .1) at (c .before .before .before .before .before .before .before .before .read-items .ensures) in
     group-fits (c .before .before .before .before .before .before .before .before .before .before .before .before .before .before .before .before .before .before .before .before .before .before .before .before .pre .1 .0) o k (c .before .before .before .before .before .before .before .before .read-items .kept .1 .1 .1 .0 ∙ c .before .before .before .before .before .before .before .before .before .before .before .before .before .before .before .before .before .before .read-head .kept .1 .1 .1 .0)
 
--- src/items.rt:24:1
-read-item-same-length : (t : ℕ) → read-item-lts.Need-same-length (
-  read-head-reads.Asked,
-  read-head-reads.Learnt,
-  read-items-below t,
-  read-items.Post,
-  put-group-reads.Asked,
-  put-group-reads.Learnt,
-) (read-item-at t) read-item.Post
+read-item-same-length : (t : ℕ) → read-item-lts.Need-same-length (read-item-claims t) (read-item-at t) read-item.Post
 read-item-same-length t c = search needs
 
--- src/items.rt:24:1
-read-item-same-length-2 : (t : ℕ) → read-item-lts.Need-same-length-2 (
-  read-head-reads.Asked,
-  read-head-reads.Learnt,
-  read-items-below t,
-  read-items.Post,
-  put-group-reads.Asked,
-  put-group-reads.Learnt,
-) (read-item-at t) read-item.Post
+read-item-same-length-2 : (t : ℕ) → read-item-lts.Need-same-length-2 (read-item-claims t) (read-item-at t) read-item.Post
 read-item-same-length-2 t c = search needs
 
--- src/items.rt:24:1
-read-item-returns : (t : ℕ) → read-item-lts.Need-returns (
-  read-head-reads.Asked,
-  read-head-reads.Learnt,
-  read-items-below t,
-  read-items.Post,
-  put-group-reads.Asked,
-  put-group-reads.Learnt,
-) (read-item-at t) read-item.Post
+read-item-returns : (t : ℕ) → read-item-lts.Need-returns (read-item-claims t) (read-item-at t) read-item.Post
 read-item-returns t c = rw (c .before .place .given .1) at (c .before .before .before .before .before .before .before .read-head .ensures)
 
--- src/items.rt:24:1
-read-item-same-length-3 : (t : ℕ) → read-item-lts.Need-same-length-3 (
-  read-head-reads.Asked,
-  read-head-reads.Learnt,
-  read-items-below t,
-  read-items.Post,
-  put-group-reads.Asked,
-  put-group-reads.Learnt,
-) (read-item-at t) read-item.Post
+read-item-same-length-3 : (t : ℕ) → read-item-lts.Need-same-length-3 (read-item-claims t) (read-item-at t) read-item.Post
 read-item-same-length-3 t c = search needs
 
--- src/items.rt:24:1
-read-item-same-length-4 : (t : ℕ) → read-item-lts.Need-same-length-4 (
-  read-head-reads.Asked,
-  read-head-reads.Learnt,
-  read-items-below t,
-  read-items.Post,
-  put-group-reads.Asked,
-  put-group-reads.Learnt,
-) (read-item-at t) read-item.Post
+read-item-same-length-4 : (t : ℕ) → read-item-lts.Need-same-length-4 (read-item-claims t) (read-item-at t) read-item.Post
 read-item-same-length-4 t c = search needs
 
--- src/items.rt:24:1
-read-item-returns-2 : (t : ℕ) → read-item-lts.Need-returns-2 (
-  read-head-reads.Asked,
-  read-head-reads.Learnt,
-  read-items-below t,
-  read-items.Post,
-  put-group-reads.Asked,
-  put-group-reads.Learnt,
-) (read-item-at t) read-item.Post
+read-item-returns-2 : (t : ℕ) → read-item-lts.Need-returns-2 (read-item-claims t) (read-item-at t) read-item.Post
 read-item-returns-2 t c = rw (c .before .after .given .1) at (c .before .before .before .before .before .before .before .read-head .ensures)
 
--- src/items.rt:24:1
-read-item-same-length-5 : (t : ℕ) → read-item-lts.Need-same-length-5 (
-  read-head-reads.Asked,
-  read-head-reads.Learnt,
-  read-items-below t,
-  read-items.Post,
-  put-group-reads.Asked,
-  put-group-reads.Learnt,
-) (read-item-at t) read-item.Post
+read-item-same-length-5 : (t : ℕ) → read-item-lts.Need-same-length-5 (read-item-claims t) (read-item-at t) read-item.Post
 read-item-same-length-5 t c = search needs
 
--- src/items.rt:24:1
-read-item-same-length-6 : (t : ℕ) → read-item-lts.Need-same-length-6 (
-  read-head-reads.Asked,
-  read-head-reads.Learnt,
-  read-items-below t,
-  read-items.Post,
-  put-group-reads.Asked,
-  put-group-reads.Learnt,
-) (read-item-at t) read-item.Post
+read-item-same-length-6 : (t : ℕ) → read-item-lts.Need-same-length-6 (read-item-claims t) (read-item-at t) read-item.Post
 read-item-same-length-6 t c = search needs
 
--- src/items.rt:24:1
-read-item-returns-3 : (t : ℕ) → read-item-lts.Need-returns-3 (
-  read-head-reads.Asked,
-  read-head-reads.Learnt,
-  read-items-below t,
-  read-items.Post,
-  put-group-reads.Asked,
-  put-group-reads.Learnt,
-) (read-item-at t) read-item.Post
+read-item-returns-3 : (t : ℕ) → read-item-lts.Need-returns-3 (read-item-claims t) (read-item-at t) read-item.Post
 read-item-returns-3 t c = let o = rw (c .before .before .before .before .before .before .before .before .before .before .before .inside .given .1) at (c .before .before .before .before .before .before .before .before .before .before .before .before .before .before .before .before .before .read-head .ensures) in
     let w = rw (c .before .place2 .given .1) at (c .before .before .before .before .before .before .before .read-items .ensures) in
     λ xs q. o .runs xs q ∙ w Items.none (Open.group xs (o .k) q)
 
--- src/items.rt:24:1
-read-item-same-length-7 : (t : ℕ) → read-item-lts.Need-same-length-7 (
-  read-head-reads.Asked,
-  read-head-reads.Learnt,
-  read-items-below t,
-  read-items.Post,
-  put-group-reads.Asked,
-  put-group-reads.Learnt,
-) (read-item-at t) read-item.Post
+read-item-same-length-7 : (t : ℕ) → read-item-lts.Need-same-length-7 (read-item-claims t) (read-item-at t) read-item.Post
 read-item-same-length-7 t c = search needs
 
--- src/items.rt:24:1
-read-item-same-length-8 : (t : ℕ) → read-item-lts.Need-same-length-8 (
-  read-head-reads.Asked,
-  read-head-reads.Learnt,
-  read-items-below t,
-  read-items.Post,
-  put-group-reads.Asked,
-  put-group-reads.Learnt,
-) (read-item-at t) read-item.Post
+read-item-same-length-8 : (t : ℕ) → read-item-lts.Need-same-length-8 (read-item-claims t) (read-item-at t) read-item.Post
 read-item-same-length-8 t c = search needs
 
--- src/items.rt:24:1
-read-item-returns-4 : (t : ℕ) → read-item-lts.Need-returns-4 (
-  read-head-reads.Asked,
-  read-head-reads.Learnt,
-  read-items-below t,
-  read-items.Post,
-  put-group-reads.Asked,
-  put-group-reads.Learnt,
-) (read-item-at t) read-item.Post
+read-item-returns-4 : (t : ℕ) → read-item-lts.Need-returns-4 (read-item-claims t) (read-item-at t) read-item.Post
 read-item-returns-4 t c = let o = rw (c .before .before .before .before .before .before .before .before .before .before .before .before .before .before .before .inside .given .1) at (c .before .before .before .before .before .before .before .before .before .before .before .before .before .before .before .before .before .before .before .before .before .read-head .ensures) in
     let k = rw (c .before .before .before .before .before .after2 .given .1) at (c .before .before .before .before .before .before .before .before .before .before .before .read-items .ensures) in
     took-group (c .before .before .before .before .before .before .before .before .before .before .before .before .before .before .before .before .before .before .before .before .before .before .before .before .before .before .before .pre .1 .0) o k (c .before .before .before .before .before .before .before .before .before .before .before .read-items .kept .1 .1 .1 .0 ∙ c .before .before .before .before .before .before .before .before .before .before .before .before .before .before .before .before .before .before .before .before .before .read-head .kept .1 .1 .1 .0) _ (c .before .before .put-group .ensures)
@@ -294,164 +132,102 @@ read-items-Inv-loop text level entries₀ chars₀ p₀ entries chars p = SoFar 
 abbrev read-items-μ-loop : read-items-lts.MeasureT-loop
 read-items-μ-loop text level entries₀ chars₀ p₀ entries chars p = length text - p .at
 
--- src/items.rt:66:5
 read-items-loop-holds : (t : ℕ) → read-items-lts.Need-loop-holds (
   read-item-below t,
   read-item.Post,
 ) (read-items-at t) read-items.Post read-items-Inv-loop read-items-μ-loop
 read-items-loop-holds t c = so-far-none (c .before .before .before .pre .1 .0)
 
--- src/items.rt:67:15
 read-items-read-item-requires : (t : ℕ) → read-items-lts.Need-read-item-requires (
   read-item-below t,
   read-item.Post,
 ) (read-items-at t) read-items.Post read-items-Inv-loop read-items-μ-loop
 read-items-read-item-requires t c κs = (omega (arith, c .before .before .before .before .before .before .pre .0), (c .before .before .loop .inv .room, omega (arith, c .before .before .before .before .before .before .pre .1 .1, c .before .before .loop .inv .long-chars)))
 
--- src/items.rt:68:29
 read-items-enum-known-place : (t : ℕ) → read-items-lts.Need-enum-known-place (
   read-item-below t,
   read-item.Post,
 ) (read-items-at t) read-items.Post read-items-Inv-loop read-items-μ-loop
 read-items-enum-known-place t c = search needs
 
--- src/items.rt:68:40
 read-items-same-length : (t : ℕ) → read-items-lts.Need-same-length (
   read-item-below t,
   read-item.Post,
 ) (read-items-at t) read-items.Post read-items-Inv-loop read-items-μ-loop
 read-items-same-length t c = search needs
 
--- src/items.rt:68:40
 read-items-same-length-2 : (t : ℕ) → read-items-lts.Need-same-length-2 (
   read-item-below t,
   read-item.Post,
 ) (read-items-at t) read-items.Post read-items-Inv-loop read-items-μ-loop
 read-items-same-length-2 t c = search needs
 
--- src/items.rt:68:40
-read-items-returns :
-    (t : ℕ) →
-    read-items-lts.Need-returns
-    (read-item-below t, read-item.Post)
-    (read-items-at t)
-    read-items.Post
-    read-items-Inv-loop
-    read-items-μ-loop
+read-items-returns : (t : ℕ) → read-items-lts.Need-returns (read-items-claims t) (read-items-at t) read-items.Post read-items-Inv-loop read-items-μ-loop
 read-items-returns t c = so-far-wrong (c .before .before .before .before .before .before .before .before .before .before .loop .inv) _ (rw (c .before .place .given .1) at (c .before .before .before .before .before .before .before .read-item .ensures))
 
--- src/items.rt:69:26
 read-items-enum-known-after : (t : ℕ) → read-items-lts.Need-enum-known-after (
   read-item-below t,
   read-item.Post,
 ) (read-items-at t) read-items.Post read-items-Inv-loop read-items-μ-loop
 read-items-enum-known-after t c = search needs
 
--- src/items.rt:72:21
 read-items-same-length-3 : (t : ℕ) → read-items-lts.Need-same-length-3 (
   read-item-below t,
   read-item.Post,
 ) (read-items-at t) read-items.Post read-items-Inv-loop read-items-μ-loop
 read-items-same-length-3 t c = search needs
 
--- src/items.rt:72:21
 read-items-same-length-4 : (t : ℕ) → read-items-lts.Need-same-length-4 (
   read-item-below t,
   read-item.Post,
 ) (read-items-at t) read-items.Post read-items-Inv-loop read-items-μ-loop
 read-items-same-length-4 t c = search needs
 
--- src/items.rt:72:21
-read-items-returns-2 :
-    (t : ℕ) →
-    read-items-lts.Need-returns-2
-    (read-item-below t, read-item.Post)
-    (read-items-at t)
-    read-items.Post
-    read-items-Inv-loop
-    read-items-μ-loop
+read-items-returns-2 : (t : ℕ) → read-items-lts.Need-returns-2 (read-items-claims t) (read-items-at t) read-items.Post read-items-Inv-loop read-items-μ-loop
 read-items-returns-2 t c = so-far-end (c .before .before .before .before .before .before .before .before .before .before .before .loop .inv) (rw (c .before .before .after .given .1) at (c .before .before .before .before .before .before .before .before .read-item .ensures)) (c .if1 .taken)
 
--- src/items.rt:74:25
 read-items-shared-slice-read-b : (t : ℕ) → read-items-lts.Need-shared-slice-read-b (
   read-item-below t,
   read-item.Post,
 ) (read-items-at t) read-items.Post read-items-Inv-loop read-items-μ-loop
 read-items-shared-slice-read-b t c = omega arith
 
--- src/items.rt:76:25
-read-items-add-t17 :
-    (t : ℕ) →
-    read-items-lts.Need-add-t17
-    (read-item-below t, read-item.Post)
-    (read-items-at t)
-    read-items.Post
-    read-items-Inv-loop
-    read-items-μ-loop
+read-items-add-t17 : (t : ℕ) → read-items-lts.Need-add-t17 (read-items-claims t) (read-items-at t) read-items.Post read-items-Inv-loop read-items-μ-loop
 read-items-add-t17 t c = omega arith
 
--- src/items.rt:82:21
 read-items-same-length-5 : (t : ℕ) → read-items-lts.Need-same-length-5 (
   read-item-below t,
   read-item.Post,
 ) (read-items-at t) read-items.Post read-items-Inv-loop read-items-μ-loop
 read-items-same-length-5 t c = search needs
 
--- src/items.rt:82:21
 read-items-same-length-6 : (t : ℕ) → read-items-lts.Need-same-length-6 (
   read-item-below t,
   read-item.Post,
 ) (read-items-at t) read-items.Post read-items-Inv-loop read-items-μ-loop
 read-items-same-length-6 t c = search needs
 
--- src/items.rt:82:21
-read-items-returns-3 :
-    (t : ℕ) →
-    read-items-lts.Need-returns-3
-    (read-item-below t, read-item.Post)
-    (read-items-at t)
-    read-items.Post
-    read-items-Inv-loop
-    read-items-μ-loop
+read-items-returns-3 : (t : ℕ) → read-items-lts.Need-returns-3 (read-items-claims t) (read-items-at t) read-items.Post read-items-Inv-loop read-items-μ-loop
 read-items-returns-3 t c = so-far-closed (c .before .before .before .before .before .before .before .before .before .before .before .before .before .loop .inv) (rw (c .before .before .before .before .after .given .1) at (c .before .before .before .before .before .before .before .before .before .before .read-item .ensures)) (omega (arith, c .before .before .if1 .left)) (c .before .before .before .before .before .before .before .before .before .before .read-item .kept .1 .1 .1 .0) (c .before .before .before .before .before .before .before .before .before .before .read-item .kept .1 .1 .1 .1 .0) (c .if2 .taken)
 
--- src/items.rt:85:21
 read-items-same-length-7 : (t : ℕ) → read-items-lts.Need-same-length-7 (
   read-item-below t,
   read-item.Post,
 ) (read-items-at t) read-items.Post read-items-Inv-loop read-items-μ-loop
 read-items-same-length-7 t c = search needs
 
--- src/items.rt:85:21
 read-items-same-length-8 : (t : ℕ) → read-items-lts.Need-same-length-8 (
   read-item-below t,
   read-item.Post,
 ) (read-items-at t) read-items.Post read-items-Inv-loop read-items-μ-loop
 read-items-same-length-8 t c = search needs
 
--- src/items.rt:85:21
-read-items-returns-4 :
-    (t : ℕ) →
-    read-items-lts.Need-returns-4
-    (read-item-below t, read-item.Post)
-    (read-items-at t)
-    read-items.Post
-    read-items-Inv-loop
-    read-items-μ-loop
+read-items-returns-4 : (t : ℕ) → read-items-lts.Need-returns-4 (read-items-claims t) (read-items-at t) read-items.Post read-items-Inv-loop read-items-μ-loop
 read-items-returns-4 t c = so-far-other (c .before .before .before .before .before .before .before .before .before .before .before .before .before .before .loop .inv) (rw (c .before .before .before .before .before .after .given .1) at (c .before .before .before .before .before .before .before .before .before .before .before .read-item .ensures)) (omega (arith, c .before .before .before .if1 .left)) (c .before .if2 .left) (c .if3 .taken)
 
--- src/items.rt:66:5
-read-items-loop-less :
-    (t : ℕ) →
-    read-items-lts.Need-loop-less
-    (read-item-below t, read-item.Post)
-    (read-items-at t)
-    read-items.Post
-    read-items-Inv-loop
-    read-items-μ-loop
+read-items-loop-less : (t : ℕ) → read-items-lts.Need-loop-less (read-items-claims t) (read-items-at t) read-items.Post read-items-Inv-loop read-items-μ-loop
 read-items-loop-less t c = let k = rw (c .before .before .before .before .before .after .given .1) at (c .before .before .before .before .before .before .before .before .before .before .before .read-item .ensures) in omega (arith, k .more, c .before .before .before .if1 .left)
 
--- src/items.rt:66:5
 read-items-loop-again : (t : ℕ) → read-items-lts.Need-loop-again (
   read-item-below t,
   read-item.Post,
@@ -459,14 +235,7 @@ read-items-loop-again : (t : ℕ) → read-items-lts.Need-loop-again (
 read-items-loop-again t c = so-far-more (c .before .before .before .before .before .before .before .before .before .before .before .before .before .before .loop .inv) (rw (c .before .before .before .before .before .after .given .1) at (c .before .before .before .before .before .before .before .before .before .before .before .read-item .ensures)) (omega (arith, c .before .before .before .if1 .left)) (c .before .before .before .before .before .before .before .before .before .before .before .read-item .kept .1 .1 .1 .0) (c .before .before .before .before .before .before .before .before .before .before .before .read-item .kept .1 .1 .1 .1 .0) (c .if3 .left)
 
 pub +read-item+read-items-spec : {M : Type 1} → statement M
-+read-item+read-items-spec = close μ-read-item μ-read-items (λ t. read-item-lts.spec (
-  read-head-reads.Asked,
-  read-head-reads.Learnt,
-  read-items-below t,
-  read-items.Post,
-  put-group-reads.Asked,
-  put-group-reads.Learnt,
-)
++read-item+read-items-spec = close μ-read-item μ-read-items (λ t. read-item-lts.spec (read-item-claims t)
     (read-item-at t)
     read-item.Post
     (read-item-read-head-requires t)
@@ -491,7 +260,7 @@ pub +read-item+read-items-spec : {M : Type 1} → statement M
     (read-item-same-length-8 t)
     (read-item-returns-4 t))
     λ t. read-items-lts.spec
-    (read-item-below t, read-item.Post)
+    (read-items-claims t)
     (read-items-at t)
     read-items.Post
     read-items-Inv-loop

@@ -4,35 +4,25 @@ use native.Mathlib.Nat.{zero-add}
 use borrow.Author.Needs.{needs}
 use Rattle.format_read.proofs.items.put_group.Statement.{statement}
 use Rattle.format_read.proofs.items.put_group.Tie as tie
-use Rattle.format_read.proofs.items.put_group.Reads as reads
-use Rattle.format_read.proofs.items.put_group.Lts as lts
-use Rattle.format_read.proofs.entry.put_entry.Reads as put-entry-reads
 
--- src/items.rt:20:36
 add-put-entry : tie.Need-add-put-entry
 add-put-entry c = search needs
 
--- src/items.rt:20:29
 sub-put-entry : tie.Need-sub-put-entry
 sub-put-entry c = search needs
 
--- src/items.rt:20:27
 mul-put-entry : tie.Need-mul-put-entry
 mul-put-entry c = search needs
 
--- src/items.rt:20:27
 add-put-entry-2 : tie.Need-add-put-entry-2
 add-put-entry-2 c = search needs
 
--- src/items.rt:20:5
 put-entry-requires : tie.Need-put-entry-requires
 put-entry-requires c κs = search needs
 
--- src/items.rt:16:1
 same-length : tie.Need-same-length
 same-length c = search needs
 
--- src/items.rt:16:1
 returns : tie.Need-returns
 returns c = simp zero-add (c .before .before .put-entry .ensures)
 

@@ -1,14 +1,11 @@
 -- `format_read::literals::read_literal` meets its contract.
 -- Assumes nothing.
 use native.Mathlib.Omega.{arith}
-use borrow.Author.Needs.{needs}
 use Prim.Native.Nat.{_-_}
 use lib.ListN.{length}
 use Rattle.format_read.proofs.LiteralSteps.{LiteralSoFar, literal-none, literal-plain, literal-low, literal-high, literal-cut, literal-double, literal-empty, literal-all, literal-open}
 use Rattle.format_read.proofs.literals.read_literal.Statement.{statement}
 use Rattle.format_read.proofs.literals.read_literal.Tie as tie
-use Rattle.format_read.proofs.literals.read_literal.Reads as reads
-use Rattle.format_read.proofs.literals.read_literal.Lts as lts
 
 abbrev Inv-loop : tie.InvT-loop
 Inv-loop text at m chars₀ c p₀ n₀ chars p n = LiteralSoFar text at m chars₀ c chars p n
@@ -16,123 +13,93 @@ Inv-loop text at m chars₀ c p₀ n₀ chars p n = LiteralSoFar text at m chars
 abbrev μ-loop : tie.MeasureT-loop
 μ-loop text at m chars₀ c p₀ n₀ chars p n = length text - p
 
--- src/literals.rt:15:5
 loop-holds : tie.Need-loop-holds Inv-loop μ-loop
 loop-holds c = literal-none _ _ _ _ _ (c .pre .0) (c .pre .1)
 
--- src/literals.rt:16:17
 shared-slice-read-b : tie.Need-shared-slice-read-b Inv-loop μ-loop
 shared-slice-read-b c = omega arith
 
--- src/literals.rt:18:30
 add-if2 : tie.Need-add-if2 Inv-loop μ-loop
 add-if2 c = omega arith
 
--- src/literals.rt:19:48
 add-t16 : tie.Need-add-t16 Inv-loop μ-loop
 add-t16 c = omega arith
 
--- src/literals.rt:19:17
 same-length : tie.Need-same-length Inv-loop μ-loop
 same-length c = c .before .before .before .before .loop .inv .long
 
--- src/literals.rt:19:17
 returns : tie.Need-returns Inv-loop μ-loop
 returns c = literal-cut (c .before .before .before .before .loop .inv) (c .before .before .before .loop-test .taken) (c .before .if1 .taken) (c .if2 .taken)
 
--- src/literals.rt:21:21
 add-if3 : tie.Need-add-if3 Inv-loop μ-loop
 add-if3 c = omega arith
 
--- src/literals.rt:21:16
 shared-slice-read-if3 : tie.Need-shared-slice-read-if3 Inv-loop μ-loop
 shared-slice-read-if3 c = omega arith
 
--- src/literals.rt:23:52
 add-t20 : tie.Need-add-t20 Inv-loop μ-loop
 add-t20 c = omega arith
 
--- src/literals.rt:23:21
 same-length-2 : tie.Need-same-length-2 Inv-loop μ-loop
 same-length-2 c = c .before .before .before .before .before .before .before .loop .inv .long
 
--- src/literals.rt:23:21
 returns-2 : tie.Need-returns-2 Inv-loop μ-loop
 returns-2 c = literal-empty (c .before .before .before .before .before .before .before .loop .inv) (c .before .before .before .before .before .before .loop-test .taken) (c .before .before .before .before .if1 .taken) (omega (arith, c .before .before .before .if2 .left)) (c .before .if3 .taken) (c .if4 .taken)
 
--- src/literals.rt:26:27
 add-t21 : tie.Need-add-t21 Inv-loop μ-loop
 add-t21 c = omega arith
 
--- src/literals.rt:25:17
 same-length-3 : tie.Need-same-length-3 Inv-loop μ-loop
 same-length-3 c = c .before .before .before .before .before .before .before .loop .inv .long
 
--- src/literals.rt:25:17
 returns-3 : tie.Need-returns-3 Inv-loop μ-loop
 returns-3 c = literal-all (c .before .before .before .before .before .before .before .loop .inv) (c .before .before .before .before .before .before .loop-test .taken) (c .before .before .before .before .if1 .taken) (omega (arith, c .before .before .before .if2 .left)) (c .before .if3 .taken) (c .if4 .left)
 
--- src/literals.rt:30:13
 slice-write-chars : tie.Need-slice-write-chars Inv-loop μ-loop
 slice-write-chars c = omega (arith, c .before .before .before .before .before .before .loop .inv .fewer, c .before .before .before .before .before .before .loop .inv .long)
 
--- src/literals.rt:31:13
 add-n : tie.Need-add-n Inv-loop μ-loop
 add-n c = omega (arith, c .before .before .before .before .before .before .loop .inv .fewer)
 
--- src/literals.rt:32:13
 add-p : tie.Need-add-p Inv-loop μ-loop
 add-p c = omega arith
 
--- src/literals.rt:15:5
 loop-less : tie.Need-loop-less Inv-loop μ-loop
 loop-less c = omega arith
 
--- src/literals.rt:15:5
 loop-again : tie.Need-loop-again Inv-loop μ-loop
 loop-again c = literal-double (c .before .before .before .before .before .before .loop .inv) (c .before .before .before .before .before .loop-test .taken) (c .before .before .before .if1 .taken) (omega (arith, c .before .before .if2 .left)) (c .if3 .left) (omega (arith, c .before .before .before .before .before .before .loop .inv .fewer, c .before .before .before .before .before .before .loop .inv .long))
 
--- src/literals.rt:35:17
 same-length-4 : tie.Need-same-length-4 Inv-loop μ-loop
 same-length-4 c = c .before .before .before .before .loop .inv .long
 
--- src/literals.rt:35:17
 returns-4 : tie.Need-returns-4 Inv-loop μ-loop
 returns-4 c = literal-low (c .before .before .before .before .loop .inv) (c .before .before .before .loop-test .taken) (c .before .if1 .left) (c .if5 .taken)
 
--- src/literals.rt:38:17
 same-length-5 : tie.Need-same-length-5 Inv-loop μ-loop
 same-length-5 c = c .before .before .before .before .before .loop .inv .long
 
--- src/literals.rt:38:17
 returns-5 : tie.Need-returns-5 Inv-loop μ-loop
 returns-5 c = literal-high (c .before .before .before .before .before .loop .inv) (c .before .before .before .before .loop-test .taken) (c .before .before .if1 .left) (c .before .if5 .left) (c .if6 .taken)
 
--- src/literals.rt:40:13
 slice-write-chars-2 : tie.Need-slice-write-chars-2 Inv-loop μ-loop
 slice-write-chars-2 c = omega (arith, c .before .before .before .before .before .loop .inv .fewer, c .before .before .before .before .before .loop .inv .long)
 
--- src/literals.rt:41:13
 add-n-2 : tie.Need-add-n-2 Inv-loop μ-loop
 add-n-2 c = omega (arith, c .before .before .before .before .before .loop .inv .fewer)
 
--- src/literals.rt:42:13
 add-p-2 : tie.Need-add-p-2 Inv-loop μ-loop
 add-p-2 c = omega arith
 
--- src/literals.rt:15:5
 loop-less-2 : tie.Need-loop-less-2 Inv-loop μ-loop
 loop-less-2 c = omega arith
 
--- src/literals.rt:15:5
 loop-again-2 : tie.Need-loop-again-2 Inv-loop μ-loop
 loop-again-2 c = literal-plain (c .before .before .before .before .before .loop .inv) (c .before .before .before .before .loop-test .taken) (c .before .before .if1 .left) (c .before .if5 .left) (c .if6 .left) (omega (arith, c .before .before .before .before .before .loop .inv .fewer, c .before .before .before .before .before .loop .inv .long))
 
--- src/literals.rt:9:1
 same-length-6 : tie.Need-same-length-6 Inv-loop μ-loop
 same-length-6 c = c .before .loop .inv .long
 
--- src/literals.rt:9:1
 returns-6 : tie.Need-returns-6 Inv-loop μ-loop
 returns-6 c = literal-open (c .before .loop .inv) (c .loop-test .left)
 

@@ -4,30 +4,22 @@ use borrow.Author.Tests.{eq-eqb, ne-eqb, lt-ltb, le-ltb}
 use borrow.Author.Needs.{needs}
 use Rattle.format_read.proofs.range.first_outside.Statement.{statement}
 use Rattle.format_read.proofs.range.first_outside.Tie as tie
-use Rattle.format_read.proofs.range.first_outside.Reads as reads
-use Rattle.format_read.proofs.range.first_outside.Lts as lts
 
--- src/range.rt:14:9
 returns : tie.Need-returns
 returns c = simp (ne-eqb _ _ (c .if1 .taken))
 
--- src/range.rt:17:16
 add-result : tie.Need-add-result
 add-result c = search needs
 
--- src/range.rt:17:9
 returns-2 : tie.Need-returns-2
 returns-2 c = simp (eq-eqb _ _ (c .before .if1 .left), lt-ltb _ _ (c .if2 .taken))
 
--- src/range.rt:20:16
 add-result-2 : tie.Need-add-result-2
 add-result-2 c = search needs
 
--- src/range.rt:20:9
 returns-3 : tie.Need-returns-3
 returns-3 c = simp (eq-eqb _ _ (c .before .before .if1 .left), le-ltb _ _ (c .before .if2 .left), lt-ltb _ _ (c .if3 .taken))
 
--- src/range.rt:9:1
 returns-4 : tie.Need-returns-4
 returns-4 c = simp (eq-eqb _ _ (c .before .before .if1 .left), le-ltb _ _ (c .before .if2 .left), le-ltb _ _ (c .if3 .left))
 

@@ -5,20 +5,14 @@ use Rattle.format_read.specs.Steps.{outsideAfter}
 use borrow.Author.Needs.{needs}
 use Rattle.format_read.proofs.singles.outside_of.Statement.{statement}
 use Rattle.format_read.proofs.singles.outside_of.Tie as tie
-use Rattle.format_read.proofs.singles.outside_of.Reads as reads
-use Rattle.format_read.proofs.singles.outside_of.Lts as lts
-use Rattle.format_read.proofs.range.first_outside.Reads as first-outside-reads
 
--- src/singles.rt:112:9
 returns : tie.Need-returns
 unfolding outsideAfter
 returns c = simp (eq-eqb _ _ (c .if1 .taken))
 
--- src/singles.rt:114:5
 first-outside-requires : tie.Need-first-outside-requires
 first-outside-requires c κs = search needs
 
--- src/singles.rt:107:1
 returns-2 : tie.Need-returns-2
 unfolding outsideAfter
 returns-2 c = simp (ne-eqb _ _ (c .before .if1 .left)) (c .first-outside .ensures)

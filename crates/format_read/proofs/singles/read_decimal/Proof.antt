@@ -6,68 +6,49 @@ use Rattle.format_read.proofs.SingleSteps.{number-last, decimal-missing
 use borrow.Author.Needs.{needs}
 use Rattle.format_read.proofs.singles.read_decimal.Statement.{statement}
 use Rattle.format_read.proofs.singles.read_decimal.Tie as tie
-use Rattle.format_read.proofs.singles.read_decimal.Reads as reads
-use Rattle.format_read.proofs.singles.read_decimal.Lts as lts
-use Rattle.format_read.proofs.digits.read_number.Reads as read-number-reads
-use Rattle.format_read.proofs.range.first_outside.Reads as first-outside-reads
 
--- src/singles.rt:70:9
 read-number-requires : tie.Need-read-number-requires
 read-number-requires c κs = search needs
 
--- src/singles.rt:74:9
 returns : tie.Need-returns
 returns c = λ k rep. decimal-missing (c .before .read-number .ensures) k (c .if1 .taken)
 
--- src/singles.rt:77:9
 returns-2 : tie.Need-returns-2
 returns-2 c = λ k rep. number-last (c .before .before .read-number .ensures) (Use.widthF k) (c .if2 .taken)
 
--- src/singles.rt:79:8
 shared-slice-read-if3 : tie.Need-shared-slice-read-if3
 shared-slice-read-if3 c = search needs
 
--- src/singles.rt:80:9
 returns-3 : tie.Need-returns-3
 returns-3 c = λ k rep. decimal-no-point (c .before .before .before .before .read-number .ensures) k (c .before .before .before .if1 .left) (c .if3 .taken)
 
--- src/singles.rt:82:17
 add-start : tie.Need-add-start
 add-start c = search needs
 
--- src/singles.rt:83:9
 first-outside-requires : tie.Need-first-outside-requires
 first-outside-requires c κs = search needs
 
--- src/singles.rt:84:9
 read-number-requires-2 : tie.Need-read-number-requires-2
 read-number-requires-2 c κs = search needs
 
--- src/singles.rt:88:9
 returns-4 : tie.Need-returns-4
 returns-4 c = λ k rep. decimal-no-places (c .before .before .before .before .before .before .before .read-number .ensures) k (c .before .before .before .before .before .before .if1 .left) (omega (arith, c .before .before .before .before .before .if2 .left)) (c .before .before .before .if3 .left) (c .before .read-number2 .ensures) (c .if4 .taken)
 
--- src/singles.rt:91:16
 mul-t17 : tie.Need-mul-t17
 mul-t17 c = search needs
 
--- src/singles.rt:91:16
 add-t18 : tie.Need-add-t18
 add-t18 c = search needs
 
--- src/singles.rt:91:15
 mul-t19 : tie.Need-mul-t19
 mul-t19 c = search needs
 
--- src/singles.rt:91:15
 add-t20 : tie.Need-add-t20
 add-t20 c = search needs
 
--- src/singles.rt:94:18
 first-outside-requires-2 : tie.Need-first-outside-requires-2
 first-outside-requires-2 c κs = search needs
 
--- src/singles.rt:66:1
 returns-5 : tie.Need-returns-5
 returns-5 c = λ k rep. decimal-read (c .before .before .before .before .before .before .before .before .read-number .ensures) k (c .before .before .before .before .before .before .before .if1 .left) (omega (arith, c .before .before .before .before .before .before .if2 .left)) (c .before .before .before .before .if3 .left) (c .before .before .read-number2 .ensures) (c .before .if4 .left) _ rep (c .before .before .before .before .before .before .before .before .before .before .pre .2) _ _ _ (c .before .before .before .first-outside .ensures) (c .first-outside2 .ensures)
 

@@ -4,32 +4,22 @@ use Rattle.format_read.proofs.SingleSteps.{one-missing, one-read}
 use borrow.Author.Needs.{needs}
 use Rattle.format_read.proofs.singles.read_one.Statement.{statement}
 use Rattle.format_read.proofs.singles.read_one.Tie as tie
-use Rattle.format_read.proofs.singles.read_one.Reads as reads
-use Rattle.format_read.proofs.singles.read_one.Lts as lts
-use Rattle.format_read.proofs.digits.read_number.Reads as read-number-reads
-use Rattle.format_read.proofs.range.first_outside.Reads as first-outside-reads
 
--- src/singles.rt:27:9
 read-number-requires : tie.Need-read-number-requires
 read-number-requires c κs = search needs
 
--- src/singles.rt:31:9
 returns : tie.Need-returns
 returns c = λ u k rep e. one-missing (c .before .read-number .ensures) e (c .if1 .taken)
 
--- src/singles.rt:34:15
 mul-t11 : tie.Need-mul-t11
 mul-t11 c = search needs
 
--- src/singles.rt:34:15
 add-t12 : tie.Need-add-t12
 add-t12 c = search needs
 
--- src/singles.rt:37:18
 first-outside-requires : tie.Need-first-outside-requires
 first-outside-requires c κs = search needs
 
--- src/singles.rt:23:1
 returns-2 : tie.Need-returns-2
 returns-2 c = λ u k rep e. one-read (c .before .before .read-number .ensures) e (c .before .if1 .left) (c .before .before .before .before .pre .2) _ rep (c .before .before .before .before .pre .3) _ _ (c .first-outside .ensures)
 

@@ -1,6 +1,6 @@
 -- `format_read::singles::read_single` meets its contract.
 -- Assumes nothing.
-use mathlib.Core.Path.{refl, sym, _∙_}
+use mathlib.Core.Path.{refl, sym}
 use native.Mathlib.Omega.{arith}
 use Rattle.format_grammar.specs.Items.{number, Repeat}
 use Rattle.format_grammar.specs.Reading.{Use, written}
@@ -9,133 +9,99 @@ use Rattle.format_read.proofs.BegunSteps.{begun-read, begun-stuck, begu
 use borrow.Author.Needs.{needs}
 use Rattle.format_read.proofs.singles.read_single.Statement.{statement}
 use Rattle.format_read.proofs.singles.read_single.Tie as tie
-use Rattle.format_read.proofs.singles.read_single.Reads as reads
-use Rattle.format_read.proofs.singles.read_single.Lts as lts
-use Rattle.format_read.proofs.singles.outside_of.Reads as outside-of-reads
-use Rattle.format_read.proofs.singles.read_decimal.Reads as read-decimal-reads
-use Rattle.format_read.proofs.singles.read_one.Reads as read-one-reads
-use Rattle.format_read.proofs.singles.read_text.Reads as read-text-reads
-use Rattle.format_read.proofs.singles.repeat_of.Reads as repeat-of-reads
 
--- src/singles.rt:123:13
 shared-slice-read-b : tie.Need-shared-slice-read-b
 shared-slice-read-b c = search needs
 
--- src/singles.rt:124:9
 repeat-of-requires : tie.Need-repeat-of-requires
 repeat-of-requires c κs = search needs
 
--- src/singles.rt:125:9
 outside-of-requires : tie.Need-outside-of-requires
 outside-of-requires c κs = search needs
 
--- src/singles.rt:127:31
 add-read-one : tie.Need-add-read-one
 add-read-one c = search needs
 
--- src/singles.rt:127:9
 read-one-requires : tie.Need-read-one-requires
 read-one-requires c κs = search needs
 
--- src/singles.rt:127:9
 returns : tie.Need-returns
 returns c = let k = written (c .before .before .before .before .before .before .args .from) (c .before .before .before .before .before .before .args .at) (c .before .before .before .before .before .before .args .value) in
     begun-read (c .before .before .before .before .before .before .pre .0) (c .before .before .before .before .before .before .pre .1 .0) k refl (Use.widthI k) (λ l xs q. rw (c .before .if1 .taken)) _ _ (c .before .before .outside-of .ensures) (c .read-one .result)
     (c .read-one .ensures (Use.widthI k) k (sym (c .before .before .before .repeat-of .ensures .0)) (ends-I k))
 
--- src/singles.rt:130:35
 add-read-decimal : tie.Need-add-read-decimal
 add-read-decimal c = search needs
 
--- src/singles.rt:130:9
 read-decimal-requires : tie.Need-read-decimal-requires
 read-decimal-requires c κs = search needs
 
--- src/singles.rt:130:9
 returns-2 : tie.Need-returns-2
 returns-2 c = let k = written (c .before .before .before .before .before .before .before .args .from) (c .before .before .before .before .before .before .before .args .at) (c .before .before .before .before .before .before .before .args .value) in
     begun-read (c .before .before .before .before .before .before .before .pre .0) (c .before .before .before .before .before .before .before .pre .1 .0) k refl (Use.widthF k) (λ l xs q. rw (c .before .if2 .taken)) _ _ (c .before .before .before .outside-of .ensures) (c .read-decimal .result)
     (c .read-decimal .ensures k (sym (c .before .before .before .before .repeat-of .ensures .0)))
 
--- src/singles.rt:133:31
 add-read-one-2 : tie.Need-add-read-one-2
 add-read-one-2 c = search needs
 
--- src/singles.rt:133:9
 read-one-requires-2 : tie.Need-read-one-requires-2
 read-one-requires-2 c κs = search needs
 
--- src/singles.rt:133:9
 returns-3 : tie.Need-returns-3
 returns-3 c = let k = written (c .before .before .before .before .before .before .before .before .args .from) (c .before .before .before .before .before .before .before .before .args .at) (c .before .before .before .before .before .before .before .before .args .value) in
     begun-read (c .before .before .before .before .before .before .before .before .pre .0) (c .before .before .before .before .before .before .before .before .pre .1 .0) k refl (Use.widthL k) (λ l xs q. rw (c .before .if3 .taken)) _ _ (c .before .before .before .before .outside-of .ensures) (c .read-one2 .result)
     (c .read-one2 .ensures (Use.widthL k) k (sym (c .before .before .before .before .before .repeat-of .ensures .0)) (ends-L k))
 
--- src/singles.rt:136:32
 add-read-text : tie.Need-add-read-text
 add-read-text c = search needs
 
--- src/singles.rt:136:9
 read-text-requires : tie.Need-read-text-requires
 read-text-requires c κs = search needs
 
--- src/singles.rt:136:9
 returns-4 : tie.Need-returns-4
 returns-4 c = let k = written (c .before .before .before .before .before .before .before .before .before .args .from) (c .before .before .before .before .before .before .before .before .before .args .at) (c .before .before .before .before .before .before .before .before .before .args .value) in
     begun-read (c .before .before .before .before .before .before .before .before .before .pre .0) (c .before .before .before .before .before .before .before .before .before .pre .1 .0) k refl (Use.widthA k) (λ l xs q. rw (c .before .if4 .taken)) _ _ (c .before .before .before .before .before .outside-of .ensures) (c .read-text .result)
     (c .read-text .ensures k (sym (c .before .before .before .before .before .before .repeat-of .ensures .0)))
 
--- src/singles.rt:140:13
 returns-5 : tie.Need-returns-5
 returns-5 c = let s = c .before .before .before .before .before .before .before .before .before .before in
     begun-stuck (s .pre .0) (s .pre .1 .0) (Repeat.given (number (s .args .from) (s .args .value)))
     (written-given (s .args .from) (s .args .at) (s .args .value) (λ z. omega (arith, c .if6 .taken))) (λ l xs q. rw (c .before .if5 .taken))
 
--- src/singles.rt:142:31
 add-read-one-3 : tie.Need-add-read-one-3
 add-read-one-3 c = search needs
 
--- src/singles.rt:142:9
 read-one-requires-3 : tie.Need-read-one-requires-3
 read-one-requires-3 c κs = search needs
 
--- src/singles.rt:142:9
 returns-6 : tie.Need-returns-6
 returns-6 c = let s = c .before .before .before .before .before .before .before .before .before .before .before in
     begun-read (s .pre .0) (s .pre .1 .0) Repeat.absent (written-absent (s .args .from) (s .args .at) (s .args .value) (omega (arith, c .before .if6 .left, s .pre .0 .low))) Use.column (λ l xs q. rw (c .before .before .if5 .taken)) _ _
     (c .before .before .before .before .before .before .before .outside-of .ensures) (c .read-one3 .result) (c .read-one3 .ensures Use.column Repeat.absent refl ends-T)
 
--- src/singles.rt:146:13
 returns-7 : tie.Need-returns-7
 returns-7 c = let s = c .before .before .before .before .before .before .before .before .before .before .before in
     begun-stuck (s .pre .0) (s .pre .1 .0) Repeat.absent (written-absent (s .args .from) (s .args .at) (s .args .value) (sym (c .if8 .taken))) (λ l xs q. rw (c .before .if7 .taken))
 
--- src/singles.rt:149:19
 mul-t19 : tie.Need-mul-t19
 mul-t19 c = search needs
 
--- src/singles.rt:149:19
 add-t20 : tie.Need-add-t20
 add-t20 c = search needs
 
--- src/singles.rt:151:19
 add-t21 : tie.Need-add-t21
 add-t21 c = search needs
 
--- src/singles.rt:148:9
 returns-8 : tie.Need-returns-8
 returns-8 c = let s = c .before .before .before .before .before .before .before .before .before .before .before in X-read (s .pre .0) (s .pre .1 .0) (λ z. c .if8 .left (sym z)) (c .before .if7 .taken) _ _ (c .before .before .before .before .before .before .before .outside-of .ensures)
 
--- src/singles.rt:159:19
 add-t22 : tie.Need-add-t22
 add-t22 c = search needs
 
--- src/singles.rt:156:9
 returns-9 : tie.Need-returns-9
 returns-9 c = let s = c .before .before .before .before .before .before .before .before .before .before .before in
     slash-read (s .pre .0) (s .pre .1 .0) (written (s .args .from) (s .args .at) (s .args .value)) refl (c .if9 .taken) _ (sym (c .before .before .before .before .before .before .before .before .repeat-of .ensures .0)) (c .before .before .before .before .before .before .before .before .repeat-of .ensures .1) _ _ (c .before .before .before .before .before .before .before .outside-of .ensures)
 
--- src/singles.rt:118:1
 returns-10 : tie.Need-returns-10
 returns-10 c = let s = c .before .before .before .before .before .before .before .before .before .before .before in
     begun-other (s .pre .0) (s .pre .1 .0) (written (s .args .from) (s .args .at) (s .args .value)) refl (s .pre .1 .2)

@@ -4,14 +4,10 @@ use native.Mathlib.Omega.{arith}
 use borrow.Author.Tests.{eq-eqb, ne-eqb}
 use Rattle.format_read.proofs.singles.repeat_of.Statement.{statement}
 use Rattle.format_read.proofs.singles.repeat_of.Tie as tie
-use Rattle.format_read.proofs.singles.repeat_of.Reads as reads
-use Rattle.format_read.proofs.singles.repeat_of.Lts as lts
 
--- src/singles.rt:99:1
 returns : tie.Need-returns
 returns c = (simp (eq-eqb _ _ (c .if1 .taken)), omega arith)
 
--- src/singles.rt:99:1
 returns-2 : tie.Need-returns-2
 returns-2 c = (simp (ne-eqb _ _ (c .if1 .left)), omega arith)
 

@@ -1,78 +1,38 @@
--- How many items are met, what the first item adds to them, and the numbers of the first item.
+-- What the first of some items adds to their size, to the items met and to their numbers.
 -- Assumes nothing.
-use mathlib.Core.Path.{_≡_, refl, sym, ap, _∙_}
+use mathlib.Core.Path.{_≡_, refl, ap}
 use mathlib.Core.List.{List, [], _∷_, _++_}
 use Prim.Native.Nat.{ℕ, zero, suc, _+_, _-_, _*_, _≤_}
-use native.Mathlib.Nat.{suc-mul, zero-mul}
 use native.Mathlib.Omega.{arith}
-use lib.ListN.{length, replicate, length-append, length-replicate}
-use Rattle.format_grammar.specs.Items.{valueOf, Repeat, times, Items}
+use lib.ListN.{replicate}
+use Rattle.format_grammar.specs.Items.{Repeat, times, Items}
 use Rattle.format_grammar.specs.Ranges.{Ranged, numbers, repeatNumbers, fieldNumbers}
-use Rattle.format_grammar.specs.Promises.{AllWithin, MetIsSize}
+use Rattle.format_grammar.specs.Promises.{AllWithin}
 use Rattle.format_grammar.specs.Size.{size}
 use Rattle.format_grammar.specs.Met.{Met, repeat, met, hasGroup, fromLastGroup}
 use Rattle.format_words.specs.Held.{First}
 
--- ---- how many
-
-pub length-repeat : {A : Type 0} (r : ℕ) (xs : List A) → length (repeat r xs) ≡ r * length xs
-unfolding repeat
-length-repeat zero xs = sym (zero-mul (length xs))
-length-repeat (suc r) xs = length-append xs (repeat r xs) ∙ omega (arith, length-repeat r xs, suc-mul r (length xs))
-
-many-more : (r : ℕ) (k : Met) (xs : Items) → length (met xs) ≡ size xs → length (replicate r k ++ met xs) ≡ r + size xs
-many-more r k xs e = length-append (replicate r k) (met xs) ∙ rw (length-replicate r k, e)
-
-pub met-is-size : MetIsSize
-unfolding met size
-met-is-size Items.none = refl
-met-is-size (Items.field r k xs) = many-more (times r) _ xs (met-is-size xs)
-met-is-size (Items.group r inside xs) =
-    length-append (repeat (times r) (met inside)) (met xs)
-    ∙ rw (length-repeat (times r) (met inside), met-is-size inside, met-is-size xs)
-met-is-size (Items.X n xs) = many-more 1 (Met.X (valueOf n)) xs (met-is-size xs)
-met-is-size (Items.T n xs) = many-more 1 (Met.T (valueOf n)) xs (met-is-size xs)
-met-is-size (Items.slash r xs) = many-more (times r) _ xs (met-is-size xs)
-met-is-size (Items.literal cs xs) = many-more 1 (Met.literal cs) xs (met-is-size xs)
-
 -- ---- a first item that is no group
 
-pub size-first : {xs next : Items} {r : ℕ} {k : Met} → First xs r k next → size xs ≡ r + size next
-unfolding size
-size-first First.field = refl
-size-first First.X = refl
-size-first First.T = refl
-size-first First.slash = refl
-size-first First.literal = refl
+-- what it adds to the size and to the items met, and that the groups are those that follow
+pub record FirstAdds (xs next : Items) (r : ℕ) (k : Met) : Type 0 where
+  pub size-is : size xs ≡ r + size next
+  pub met-is : met xs ≡ replicate r k ++ met next
+  pub group-is : hasGroup xs ≡ hasGroup next
+  pub last-is : fromLastGroup xs ≡ fromLastGroup next
+
+pub first-adds : {xs next : Items} {r : ℕ} {k : Met} → First xs r k next → FirstAdds xs next r k
+unfolding size met hasGroup fromLastGroup
+first-adds First.field = record { size-is = refl; met-is = refl; group-is = refl; last-is = refl }
+first-adds First.X = record { size-is = refl; met-is = refl; group-is = refl; last-is = refl }
+first-adds First.T = record { size-is = refl; met-is = refl; group-is = refl; last-is = refl }
+first-adds First.slash = record { size-is = refl; met-is = refl; group-is = refl; last-is = refl }
+first-adds First.literal = record { size-is = refl; met-is = refl; group-is = refl; last-is = refl }
 
 pub repeat-one : {A : Type 0} (r : ℕ) (k : A) → repeat r (k ∷ []) ≡ replicate r k
 unfolding repeat
 repeat-one zero k = refl
 repeat-one (suc r) k = ap (λ l. k ∷ l) (repeat-one r k)
-
-pub met-first : {xs next : Items} {r : ℕ} {k : Met} → First xs r k next → met xs ≡ replicate r k ++ met next
-unfolding met
-met-first First.field = refl
-met-first First.X = refl
-met-first First.T = refl
-met-first First.slash = refl
-met-first First.literal = refl
-
-pub group-first : {xs next : Items} {r : ℕ} {k : Met} → First xs r k next → hasGroup xs ≡ hasGroup next
-unfolding hasGroup
-group-first First.field = refl
-group-first First.X = refl
-group-first First.T = refl
-group-first First.slash = refl
-group-first First.literal = refl
-
-pub last-first : {xs next : Items} {r : ℕ} {k : Met} → First xs r k next → fromLastGroup xs ≡ fromLastGroup next
-unfolding fromLastGroup
-last-first First.field = refl
-last-first First.X = refl
-last-first First.T = refl
-last-first First.slash = refl
-last-first First.literal = refl
 
 -- ---- numbers in range
 
