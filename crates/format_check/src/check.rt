@@ -37,6 +37,16 @@ fn check_short(text: &[u8]) -> FormatCheck
     check_with(text, &mut entries, &mut chars)
 }
 
+// A text of at most 256 bytes.
+fn check_middle(text: &[u8]) -> FormatCheck
+    requires { ⌜ length (now text) ≤ 256 ⌝ }
+    ensures { λ r. ⌜ r ≡ answer (checkGrammar (reading (now (text .entry)))) ⌝ }
+{
+    let mut entries = [0u64; 256];
+    let mut chars = [0u8; 256];
+    check_with(text, &mut entries, &mut chars)
+}
+
 // A text of at most 1,024 bytes.
 fn check_long(text: &[u8]) -> FormatCheck
     requires { ⌜ length (now text) ≤ 1024 ⌝ }
@@ -47,8 +57,8 @@ fn check_long(text: &[u8]) -> FormatCheck
     check_with(text, &mut entries, &mut chars)
 }
 
-// Whether a format is accepted, or else the refusal; any bytes, any length. Most formats are short, and the arrays are
-// cleared at each call, so a short one gets small arrays.
+// Whether a format is accepted, or else the refusal; any bytes, any length. The arrays are cleared at each call, so a short
+// format gets small ones.
 pub fn check(format: &[u8]) -> FormatCheck
     ensures answers { λ r. ⌜ r ≡ answer (outcome (now (format .entry))) ⌝ }
     ensures number { λ r. ⌜ answerNumber r ≡ outcomeNumber (outcome (now (format .entry))) ⌝ }
@@ -59,6 +69,9 @@ pub fn check(format: &[u8]) -> FormatCheck
     }
     if format.len() <= 64 {
         return check_short(format);
+    }
+    if format.len() <= 256 {
+        return check_middle(format);
     }
     check_long(format)
 }

@@ -9,13 +9,13 @@ ghost use mathlib.Core.Path.{_≡_};
 ghost use Prim.Native.Nat.{_+_, _-_, _*_, _<_, _≤_};
 ghost use lib.ListN.{length, set};
 ghost use Rattle.format_grammar.specs.Reading.{Mode, State, close};
-ghost use Rattle.format_words.specs.Words.{entry, word, groupKind};
+ghost use Rattle.format_words.specs.Words.{entry, word, kindGroup};
 ghost use Rattle.format_read.specs.Steps.{Room, took};
 
 // The entry n of a group whose items' entries follow it up to `end`.
 fn put_group(entries: &mut [u64], n: usize, end: usize, r: u64)
     requires { ⌜ (n < end) × (end ≤ 1024) × (end ≤ length (now entries)) × (r < 1000) ⌝ }
-    ensures { λ _. ⌜ now (entries .exit) ≡ set (now (entries .entry)) n (entry (word groupKind (end - (n + 1)) 0) r) ⌝ }
+    ensures { λ _. ⌜ now (entries .exit) ≡ set (now (entries .entry)) n (entry (word kindGroup (end - (n + 1)) 0) r) ⌝ }
 {
     put_entry(entries, n, ((end - (n + 1)) as u64) * 16 + KIND_GROUP, r);
 }

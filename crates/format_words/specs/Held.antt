@@ -6,7 +6,7 @@ use Prim.Native.Nat.{ℕ, _+_, _<_, _≤_}
 use lib.ListN.{length, getD}
 use Rattle.format_grammar.specs.Items.{Number, valueOf, Repeat, times, Field, Items}
 use Rattle.format_grammar.specs.Met.{Met, fieldValues}
-use Rattle.format_words.specs.Words.{kindOf, firstOf, wordOf, repeatOf, groupKind, metOf, reach}
+use Rattle.format_words.specs.Words.{kindOf, firstOf, wordOf, repeatOf, kindGroup, metOf, reach}
 
 -- the items begin with an item that is no group, met so many times, and others follow
 pub data First : Items → ℕ → Met → Items → Type 0 where
@@ -18,14 +18,14 @@ pub data First : Items → ℕ → Met → Items → Type 0 where
 
 -- the entry e holds the item k, met r times, its characters being among the first c of t
 pub record Single (t : List ℕ) (c e r : ℕ) (k : Met) : Type 0 where
-  pub kind : kindOf (wordOf e) < groupKind
+  pub kind : kindOf (wordOf e) < kindGroup
   pub is : metOf t (wordOf e) ≡ k
   pub repeats : repeatOf e ≡ r
   pub reaches : reach (wordOf e) ≤ c
 
 -- the entry e at n is that of a group, whose r is as given, and whose items' entries end before m
 pub record GroupEntry (e r n m : ℕ) : Type 0 where
-  pub kind : kindOf (wordOf e) ≡ groupKind
+  pub kind : kindOf (wordOf e) ≡ kindGroup
   pub inside : m ≡ n + 1 + firstOf (wordOf e)
   pub repeats : repeatOf e ≡ r
 

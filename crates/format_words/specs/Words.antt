@@ -21,26 +21,60 @@ firstOf w = w / 16 % 1024
 abbrev pub secondOf : ℕ → ℕ
 secondOf w = w / 16384
 
+-- the kinds
+abbrev pub kindI : ℕ
+kindI = 0
+
+abbrev pub kindF : ℕ
+kindF = 1
+
+abbrev pub kindL : ℕ
+kindL = 2
+
+abbrev pub kindA : ℕ
+kindA = 3
+
+abbrev pub kindAw : ℕ
+kindAw = 4
+
+abbrev pub kindX : ℕ
+kindX = 5
+
+abbrev pub kindT : ℕ
+kindT = 6
+
+abbrev pub kindSlash : ℕ
+kindSlash = 7
+
+abbrev pub kindLiteral : ℕ
+kindLiteral = 8
+
+-- of entries alone
+abbrev pub kindGroup : ℕ
+kindGroup = 9
+
+-- the first of two items met where a test holds, else the second
 abbrev pub pickMet : Bool → Met → Met → Met
 pickMet true a b = a
 pickMet false a b = b
 
--- the item met that a word stands for; a literal's numbers are the offset and the count of its characters in t
+-- the item met that a word of a kind up to 8 stands for; a literal's numbers are the offset and the count of its characters
+-- in t
 unfoldable pub metOf : List ℕ → ℕ → Met
 metOf t w =
-    pickMet (eqb (kindOf w) 0) (Met.field (Field.I (firstOf w)))
-    (pickMet (eqb (kindOf w) 1) (Met.field (Field.F (firstOf w) (secondOf w)))
-    (pickMet (eqb (kindOf w) 2) (Met.field (Field.L (firstOf w)))
-    (pickMet (eqb (kindOf w) 3) (Met.field Field.A)
-    (pickMet (eqb (kindOf w) 4) (Met.field (Field.Aw (firstOf w)))
-    (pickMet (eqb (kindOf w) 5) (Met.X (firstOf w))
-    (pickMet (eqb (kindOf w) 6) (Met.T (firstOf w))
-    (pickMet (eqb (kindOf w) 7) Met.slash
+    pickMet (eqb (kindOf w) kindI) (Met.field (Field.I (firstOf w)))
+    (pickMet (eqb (kindOf w) kindF) (Met.field (Field.F (firstOf w) (secondOf w)))
+    (pickMet (eqb (kindOf w) kindL) (Met.field (Field.L (firstOf w)))
+    (pickMet (eqb (kindOf w) kindA) (Met.field Field.A)
+    (pickMet (eqb (kindOf w) kindAw) (Met.field (Field.Aw (firstOf w)))
+    (pickMet (eqb (kindOf w) kindX) (Met.X (firstOf w))
+    (pickMet (eqb (kindOf w) kindT) (Met.T (firstOf w))
+    (pickMet (eqb (kindOf w) kindSlash) Met.slash
     (Met.literal (take (secondOf w) (drop (firstOf w) t))))))))))
 
 -- how far into the characters a word reaches: a literal up to its end, others not at all
 unfoldable pub reach : ℕ → ℕ
-reach w = cond (eqb (kindOf w) 8) (firstOf w + secondOf w) 0
+reach w = cond (eqb (kindOf w) kindLiteral) (firstOf w + secondOf w) 0
 
 -- an entry, for an item with its repeat: a word and the repeat; a group's word has the number of entries inside as its first
 -- number, and they follow it
@@ -52,6 +86,3 @@ wordOf e = e / 1024
 
 abbrev pub repeatOf : ℕ → ℕ
 repeatOf e = e % 1024
-
-abbrev pub groupKind : ℕ
-groupKind = 9

@@ -16,12 +16,18 @@ check-short-requires c κs = search needs
 returns-2 : tie.Need-returns-2
 returns-2 c = answered _ _ (c .check-short .ensures ∙ ap answer (outcome-short _ (c .before .before .if1 .left)))
 
+check-middle-requires : tie.Need-check-middle-requires
+check-middle-requires c κs = search needs
+
+returns-3 : tie.Need-returns-3
+returns-3 c = answered _ _ (c .check-middle .ensures ∙ ap answer (outcome-short _ (c .before .before .before .if1 .left)))
+
 check-long-requires : tie.Need-check-long-requires
 check-long-requires c κs = search needs
 
-returns-3 : tie.Need-returns-3
-returns-3 c = answered _ _ (c .check-long .ensures ∙ ap answer (outcome-short _ (c .before .before .if1 .left)))
+returns-4 : tie.Need-returns-4
+returns-4 c = answered _ _ (c .check-long .ensures ∙ ap answer (outcome-short _ (c .before .before .before .if1 .left)))
 
 pub check-spec : {M : Type 1} → statement M
 check-spec =
-    tie.close (tie.spec returns check-short-requires returns-2 check-long-requires returns-3)
+    tie.close (tie.spec returns check-short-requires returns-2 check-middle-requires returns-3 check-long-requires returns-4)
