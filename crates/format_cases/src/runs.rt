@@ -2,8 +2,10 @@
 use format_check::ItemsChecked;
 use format_check::items::check_items;
 use format_run::unroll::unroll;
+use format_words::FIRST_BASE;
 use format_words::KIND_A;
 use format_words::KIND_AW;
+use format_words::KIND_BASE;
 use format_words::KIND_F;
 use format_words::KIND_I;
 use format_words::KIND_L;
@@ -34,9 +36,9 @@ fn show_literal(chars: &[u8], start: usize, count: usize) {
 
 // One item met.
 fn show_word(w: u64, chars: &[u8]) {
-    let kind = w % 16;
-    let first = w / 16 % 1024;
-    let second = w / 16384 % 2048;
+    let kind = w % KIND_BASE;
+    let first = w / KIND_BASE % FIRST_BASE;
+    let second = w / KIND_BASE / FIRST_BASE;
     io::write_all(STDOUT_FILENO, b" ");
     if kind == KIND_I {
         lettered(b"I", first);

@@ -1,4 +1,5 @@
 // Entries: a word and a repeat.
+use format_words::REPEAT_BASE;
 ghost use mathlib.Core.Path.{_≡_};
 ghost use Prim.Native.Nat.{_<_};
 ghost use lib.ListN.{length, set};
@@ -9,5 +10,5 @@ pub fn put_entry(entries: &mut [u64], n: usize, w: u64, r: u64)
     requires { ⌜ (n < length (now entries)) × (w < 33554432) × (r < 1024) ⌝ }
     ensures { λ _. ⌜ now (entries .exit) ≡ set (now (entries .entry)) n (entry w r) ⌝ }
 {
-    entries[n] = w * 1024 + r;
+    entries[n] = w * REPEAT_BASE + r;
 }

@@ -9,6 +9,8 @@ use crate::literals::read_literal;
 use crate::singles::outside_of;
 use crate::singles::read_single;
 use crate::singles::repeat_of;
+use format_words::FIRST_BASE;
+use format_words::KIND_BASE;
 use format_words::KIND_LITERAL;
 ghost use mathlib.Core.Path.{_≡_};
 ghost use mathlib.Core.Bool.{true, _||_};
@@ -41,7 +43,7 @@ fn read_literal_item(text: &[u8], p: Position, m: u8, entries: &mut [u64], chars
             put_entry(
                 entries,
                 n,
-                (((end - c) as u64) * 1024 + (c as u64)) * 16 + KIND_LITERAL,
+                (((end - c) as u64) * FIRST_BASE + (c as u64)) * KIND_BASE + KIND_LITERAL,
                 1,
             );
             Head::Whole(Position {

@@ -4,6 +4,7 @@ use crate::Head;
 use crate::Position;
 use crate::entry::put_entry;
 use crate::heads::read_head;
+use format_words::KIND_BASE;
 use format_words::KIND_GROUP;
 ghost use mathlib.Core.Path.{_≡_};
 ghost use Prim.Native.Nat.{_+_, _-_, _*_, _<_, _≤_};
@@ -17,7 +18,12 @@ fn put_group(entries: &mut [u64], n: usize, end: usize, r: u64)
     requires { ⌜ (n < end) × (end ≤ 1024) × (end ≤ length (now entries)) × (r < 1000) ⌝ }
     ensures { λ _. ⌜ now (entries .exit) ≡ set (now (entries .entry)) n (entry (word kindGroup (end - (n + 1)) 0) r) ⌝ }
 {
-    put_entry(entries, n, ((end - (n + 1)) as u64) * 16 + KIND_GROUP, r);
+    put_entry(
+        entries,
+        n,
+        ((end - (n + 1)) as u64) * KIND_BASE + KIND_GROUP,
+        r,
+    );
 }
 
 // One item, in which `level` levels of groups may open.

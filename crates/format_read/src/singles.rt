@@ -2,8 +2,10 @@
 use crate::Single;
 use crate::digits::read_number;
 use crate::range::first_outside;
+use format_words::FIRST_BASE;
 use format_words::KIND_A;
 use format_words::KIND_AW;
+use format_words::KIND_BASE;
 use format_words::KIND_F;
 use format_words::KIND_I;
 use format_words::KIND_L;
@@ -31,7 +33,7 @@ fn read_one(text: &[u8], at: usize, kind: u64, high: u64, repeat: u64, outside: 
         return Single::Wrong { place: at };
     }
     Single::Word {
-        word: value * 16 + kind,
+        word: value * KIND_BASE + kind,
         repeat,
         next,
         outside: first_outside(outside, at, value, 1, high),
@@ -55,7 +57,7 @@ fn read_text(text: &[u8], at: usize, repeat: u64, outside: usize) -> Single
         };
     }
     Single::Word {
-        word: value * 16 + KIND_AW,
+        word: value * KIND_BASE + KIND_AW,
         repeat,
         next,
         outside: first_outside(outside, at, value, 1, 64),
@@ -88,7 +90,7 @@ fn read_decimal(text: &[u8], at: usize, repeat: u64, outside: usize) -> Single
         return Single::Wrong { place: start };
     }
     Single::Word {
-        word: (d * 1024 + w) * 16 + KIND_F,
+        word: (d * FIRST_BASE + w) * KIND_BASE + KIND_F,
         repeat,
         next,
         outside: first_outside(o, start, d, 0, 9),
@@ -146,7 +148,7 @@ pub fn read_single(text: &[u8], from: usize, at: usize, value: u64, outside: usi
             return Single::Wrong { place: at };
         }
         return Single::Word {
-            word: value * 16 + KIND_X,
+            word: value * KIND_BASE + KIND_X,
             repeat: 1,
             next: at + 1,
             outside: o,

@@ -1,5 +1,8 @@
 // The size of items.
+use format_words::FIRST_BASE;
+use format_words::KIND_BASE;
 use format_words::KIND_GROUP;
+use format_words::REPEAT_BASE;
 ghost use mathlib.Core.Path.{_≡_};
 ghost use mathlib.Core.List.{List};
 ghost use Prim.Native.Nat.{ℕ, _≤_};
@@ -25,10 +28,10 @@ pub fn size_of(entries: &[u64], from: usize, to: usize, level: usize) -> u64
     let mut i = from;
     while i < to {
         let e = entries[i];
-        let w = e / 1024;
-        let r = e % 1024;
-        if w % 16 == KIND_GROUP {
-            let mid = i + 1 + (w / 16 % 1024) as usize;
+        let w = e / REPEAT_BASE;
+        let r = e % REPEAT_BASE;
+        if w % KIND_BASE == KIND_GROUP {
+            let mid = i + 1 + (w / KIND_BASE % FIRST_BASE) as usize;
             let inside = size_of(entries, i + 1, mid, level - 1);
             total = capped(total + r * inside);
             i = mid;

@@ -1,5 +1,8 @@
 // The items met, as a run of words.
+use format_words::FIRST_BASE;
+use format_words::KIND_BASE;
 use format_words::KIND_GROUP;
+use format_words::REPEAT_BASE;
 ghost use mathlib.Core.Path.{_≡_};
 ghost use mathlib.Core.List.{List};
 ghost use Prim.Native.Nat.{ℕ, _+_};
@@ -48,10 +51,10 @@ pub fn unroll(
     let mut i = from;
     while i < to {
         let e = entries[i];
-        let w = e / 1024;
-        let r = e % 1024;
-        if w % 16 == KIND_GROUP {
-            let mid = i + 1 + (w / 16 % 1024) as usize;
+        let w = e / REPEAT_BASE;
+        let r = e % REPEAT_BASE;
+        if w % KIND_BASE == KIND_GROUP {
+            let mid = i + 1 + (w / KIND_BASE % FIRST_BASE) as usize;
             let inside = unroll(entries, i + 1, mid, level - 1, run, end);
             back = end;
             end = repeat_words(run, end, inside.end, r);

@@ -1,6 +1,14 @@
-// How items and items met are kept in arrays of numbers: the kinds of words.
+// Items and items met as numbers: the layout of words and entries.
 
-// The kind of a word, in its lowest four bits.
+// A word is (second * FIRST_BASE + first) * KIND_BASE + kind, for a kind and two numbers.
+pub const KIND_BASE: u64 = 16;
+
+pub const FIRST_BASE: u64 = 1024;
+
+// An entry is word * REPEAT_BASE + repeat.
+pub const REPEAT_BASE: u64 = 1024;
+
+// The kinds of words.
 pub const KIND_I: u64 = 0;
 
 pub const KIND_F: u64 = 1;
