@@ -14,4 +14,5 @@ pub mod Place
 pub mod RangeLaws
 pub mod NumberOrder
 pub mod MetLaws
+pub mod MetRanges
 pub mod Promises

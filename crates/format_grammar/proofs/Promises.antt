@@ -16,13 +16,14 @@ use Rattle.format_grammar.specs.Reading.{Reading, items, wrong, reading}
 use Rattle.format_grammar.specs.Check.{longestFormat, Outcome, accepted, refused, checkSize, checkRange, checkGrammar, outcome, refusalNumber, refusalPlace, outcomeNumber, outcomePlace}
 use Rattle.format_grammar.specs.declared.FormatRefusal.{FormatRefusal}
 use Rattle.format_grammar.specs.declared.FormatRefusal.the-variants.{Length, Grammar, Range, Size}
-use Rattle.format_grammar.specs.Promises.{Answers, Acceptable, TooLong, NotGrammatical, OutOfRange, TooLarge, AllWithin, Verdict, AcceptsExactly, OneReading, LengthRefused, GrammarRefused, RangeRefused, SizeRefused, AlwaysAnswered, NumbersInOrder, MetIsSize, ReturnPartIs, ReturnIndexIs}
+use Rattle.format_grammar.specs.Promises.{Answers, Acceptable, TooLong, NotGrammatical, OutOfRange, TooLarge, AllWithin, Verdict, AcceptsExactly, OneReading, LengthRefused, GrammarRefused, RangeRefused, SizeRefused, AlwaysAnswered, NumbersInOrder, MetIsSize, MetInRange, ReturnPartIs, ReturnIndexIs}
 use Rattle.format_grammar.proofs.Complete.{complete}
 use Rattle.format_grammar.proofs.Sound.{sound}
 use Rattle.format_grammar.proofs.Place.{place-is, one-place}
 use Rattle.format_grammar.proofs.RangeLaws.{all-nowhere, nowhere-all, at-first, first-at}
 use Rattle.format_grammar.proofs.NumberOrder
 use Rattle.format_grammar.proofs.MetLaws
+use Rattle.format_grammar.proofs.MetRanges
 
 pub one-reading : OneReading
 one-reading s xs ys f g = let a = complete f in let b = complete g in cc
@@ -32,6 +33,9 @@ numbers-in-order = NumberOrder.numbers-in-order
 
 pub met-is-size : MetIsSize
 met-is-size = MetLaws.met-is-size
+
+pub met-in-range : MetInRange
+met-in-range = MetRanges.met-in-range
 
 pub return-part-is : ReturnPartIs
 return-part-is = MetLaws.return-part-is

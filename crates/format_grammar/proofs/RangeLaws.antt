@@ -78,3 +78,13 @@ first-past (b ∷ before) n after h out = first-later b _ (within-inside b (h .0
 
 pub first-at : (ns : List Ranged) (p : ℕ) → FirstOutsideAt ns p → firstOutside ns ≡ at p
 first-at ns p h = rw (h .split) (first-past (h .before) (h .n) (h .after) (h .fine) (h .out) ∙ ap at (h .stands))
+
+-- ---- parts of a list
+
+pub within-left : (xs ys : List Ranged) → AllWithin (xs ++ ys) → AllWithin xs
+within-left [] ys h = tt
+within-left (x ∷ xs) ys h = (h .0, within-left xs ys (h .1))
+
+pub within-right : (xs ys : List Ranged) → AllWithin (xs ++ ys) → AllWithin ys
+within-right [] ys h = h
+within-right (x ∷ xs) ys h = within-right xs ys (h .1)

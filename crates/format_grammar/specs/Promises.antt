@@ -6,11 +6,11 @@ use mathlib.Core.Bool.{false}
 use mathlib.Core.List.{List, [], _∷_, _++_}
 use Prim.Native.Nat.{ℕ, _<_, _≤_}
 use lib.ListN.{length, drop}
-use Rattle.format_grammar.specs.Items.{Number, valueOf, Repeat, Items, join}
-use Rattle.format_grammar.specs.Grammar.{NumberAt, Format, LongestShared}
+use Rattle.format_grammar.specs.Items.{Number, valueOf, Repeat, Field, Items, join}
+use Rattle.format_grammar.specs.Grammar.{NumberAt, Printable, Format, LongestShared}
 use Rattle.format_grammar.specs.Ranges.{Ranged, ranged, place, numbers}
 use Rattle.format_grammar.specs.Size.{size, largestSize}
-use Rattle.format_grammar.specs.Met.{met, hasGroup, returnPart, returnIndex}
+use Rattle.format_grammar.specs.Met.{Met, met, hasGroup, returnPart, returnIndex}
 use Rattle.format_grammar.specs.Check.{longestFormat, accepted, outcome, outcomeNumber, outcomePlace}
 
 -- ---- numbers and their ranges
@@ -122,6 +122,27 @@ AlwaysAnswered = (s : List ℕ) → Verdict s (outcomeNumber (outcome s)) (outco
 -- as many as the size, so at most 4,096 where the format is accepted
 abbrev pub MetIsSize : Type 0
 MetIsSize = (xs : Items) → length (met xs) ≡ size xs
+
+-- an item met has its numbers within their ranges, and a literal its characters
+abbrev pub MetWithin : Met → Type 0
+MetWithin (Met.field (Field.I w)) = (1 ≤ w) × (w ≤ 64)
+MetWithin (Met.field (Field.F w d)) = (1 ≤ w) × (w ≤ 64) × (d ≤ 9)
+MetWithin (Met.field (Field.L w)) = (1 ≤ w) × (w ≤ 64)
+MetWithin (Met.field Field.A) = Unit {0}
+MetWithin (Met.field (Field.Aw w)) = (1 ≤ w) × (w ≤ 64)
+MetWithin (Met.X n) = (1 ≤ n) × (n ≤ 255)
+MetWithin (Met.T n) = (1 ≤ n) × (n ≤ 255)
+MetWithin Met.slash = Unit {0}
+MetWithin (Met.literal cs) = (0 < length cs) × Printable cs
+
+-- every item met has
+abbrev pub AllMetWithin : List Met → Type 0
+AllMetWithin [] = Unit {0}
+AllMetWithin (k ∷ ks) = MetWithin k × AllMetWithin ks
+
+-- so it is where the format is accepted, and at least one item is met
+abbrev pub MetInRange : Type 0
+MetInRange = (s : List ℕ) (xs : Items) → Acceptable s xs → AllMetWithin (met xs) × (0 < length (met xs))
 
 -- the part to return to: all of the items where none is a group, else the rightmost group and what follows it
 pub data ReturnsTo (xs : Items) : Items → Type 0 where

@@ -1,15 +1,16 @@
 -- What the first of some items adds to their size, to the items met and to their numbers.
 -- Assumes nothing.
 use mathlib.Core.Path.{_≡_, refl, ap}
-use mathlib.Core.List.{List, [], _∷_, _++_}
+use mathlib.Core.List.{[], _∷_, _++_}
 use Prim.Native.Nat.{ℕ, zero, suc, _+_, _-_, _*_, _≤_}
 use native.Mathlib.Omega.{arith}
 use lib.ListN.{replicate}
 use Rattle.format_grammar.specs.Items.{Repeat, times, Items}
-use Rattle.format_grammar.specs.Ranges.{Ranged, numbers, repeatNumbers, fieldNumbers}
+use Rattle.format_grammar.specs.Ranges.{numbers, repeatNumbers, fieldNumbers}
 use Rattle.format_grammar.specs.Promises.{AllWithin}
 use Rattle.format_grammar.specs.Size.{size}
 use Rattle.format_grammar.specs.Met.{Met, repeat, met, hasGroup, fromLastGroup}
+use Rattle.format_grammar.proofs.RangeLaws.{within-left, within-right}
 use Rattle.format_words.specs.Held.{First}
 
 -- ---- a first item that is no group
@@ -35,14 +36,6 @@ repeat-one zero k = refl
 repeat-one (suc r) k = ap (λ l. k ∷ l) (repeat-one r k)
 
 -- ---- numbers in range
-
-pub within-left : (xs ys : List Ranged) → AllWithin (xs ++ ys) → AllWithin xs
-within-left [] ys h = tt
-within-left (x ∷ xs) ys h = (h .0, within-left xs ys (h .1))
-
-pub within-right : (xs ys : List Ranged) → AllWithin (xs ++ ys) → AllWithin ys
-within-right [] ys h = h
-within-right (x ∷ xs) ys h = within-right xs ys (h .1)
 
 -- a repeat in range
 pub record Few (r : ℕ) : Type 0 where
