@@ -51,13 +51,14 @@ module _ {s a t : List ℕ} {p : Position} (i : ItemsRead s a t p) where
     pub row-size : (k : ℕ) → k ≡ capped (size (i .read)) → 4096 < k → checkGrammar (reading s) ≡ refused Size
     row-size k e g = after-range ∙ rw (lt-ltb 4096 (size (i .read)) (omega arith))
 
-    pub row-none : (k : ℕ) → k ≡ capped (size (i .read)) → k ≤ 4096 → ItemsHeld s a t (p .entries) k
-    row-none k e g =
+    pub row-none : (k : ℕ) → k ≡ capped (size (i .read)) → k ≤ 4096 → length s ≤ length t → ItemsHeld s a t (p .entries) k
+    row-none k e g f =
         record {
           items = i .read;
           accepts = after-range ∙ rw (le-ltb 4096 (size (i .read)) (omega arith));
           c = p .chars;
           holds = i .holds;
+          within = omega (arith, i .few-chars);
           ranges = nowhere-all (numbers (i .read)) none-outside;
           sized = omega arith;
           small = g;

@@ -3,6 +3,7 @@
 use mathlib.Core.Path.{_≡_}
 use mathlib.Core.List.{List}
 use Prim.Native.Nat.{ℕ, _≤_}
+use lib.ListN.{length}
 use Rattle.format_grammar.specs.Items.{Items}
 use Rattle.format_grammar.specs.Ranges.{numbers}
 use Rattle.format_grammar.specs.Size.{size}
@@ -36,6 +37,7 @@ pub record ItemsHeld (s a t : List ℕ) (n k : ℕ) : Type 0 where
   pub accepts : checkGrammar (reading s) ≡ accepted items
   pub c : ℕ
   pub holds : Holds a t c 4 0 items n
+  pub within : c ≤ length t
   pub ranges : AllWithin (numbers items)
   pub sized : k ≡ size items
   pub small : k ≤ 4096

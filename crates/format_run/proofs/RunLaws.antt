@@ -9,23 +9,28 @@ use lib.ListN.{length, take, drop, set, length-append}
 use lib.Seq.{length-take-le, take-take, take-at, take-add, drop-at, take-suc-set}
 use Rattle.format_grammar.specs.Met.{Met, repeat}
 use Rattle.format_words.specs.Words.{metOf}
-use Rattle.format_run.specs.Runs.{Repeated, Ran}
+use Rattle.format_run.specs.Runs.{Repeated, RunWord, RunWords, Ran}
 use Rattle.format_grammar.proofs.MetLaws.{length-repeat}
 
-pub ran-none : {t run : List ℕ} {n : ℕ} → Ran t run n [] run n
-ran-none {t} {run} {n} = record { words = []; count = omega arith; is = sym (append-nil (take n run)); mean = refl }
+pub ran-none : {t : List ℕ} {c : ℕ} {run : List ℕ} {n : ℕ} → Ran t c run n [] run n
+ran-none {run} {n} = record { words = []; sound = tt; count = omega arith; is = sym (append-nil (take n run)); mean = refl }
 
 -- one word
-pub ran-one : {t run : List ℕ} {n : ℕ} {k : Met} (w : ℕ) → n < length run → metOf t w ≡ k → Ran t run n (k ∷ []) (set run n w) (n + 1)
-ran-one {t} {run} {n} {k} w h e =
-    record { words = w ∷ []; count = refl; is = rw (add-one n) (take-suc-set run n w h); mean = ap (λ x. x ∷ []) e }
+pub ran-one : {t : List ℕ} {c : ℕ} {run : List ℕ} {n : ℕ} {k : Met} (w : ℕ) → n < length run → metOf t w ≡ k → RunWord c w → Ran t c run n (k ∷ []) (set run n w) (n + 1)
+ran-one {run} {n} w h e s =
+    record { words = w ∷ []; sound = (s, tt); count = refl; is = rw (add-one n) (take-suc-set run n w h); mean = ap (λ x. x ∷ []) e }
+
+words-append : (c : ℕ) (vs ws : List ℕ) → RunWords c vs → RunWords c ws → RunWords c (vs ++ ws)
+words-append c [] ws g h = h
+words-append c (v ∷ vs) ws g h = (g .0, words-append c vs ws (g .1) h)
 
 -- one run after another
-pub ran-more : {t run : List ℕ} {n : ℕ} {ks js : List Met} {out : List ℕ} {m : ℕ} {last : List ℕ} {e : ℕ}
-    → Ran t run n ks out m → Ran t out m js last e → Ran t run n (ks ++ js) last e
-ran-more {t} {run} {n} {ks} {js} one two =
+pub ran-more : {t : List ℕ} {c : ℕ} {run : List ℕ} {n : ℕ} {ks js : List Met} {out : List ℕ} {m : ℕ} {last : List ℕ} {e : ℕ}
+    → Ran t c run n ks out m → Ran t c out m js last e → Ran t c run n (ks ++ js) last e
+ran-more {t} {c} {run} {n} {ks} {js} one two =
     record {
       words = one .words ++ two .words;
+      sound = words-append c (one .words) (two .words) (one .sound) (two .sound);
       count = omega (arith, one .count, two .count, length-append ks js);
       is = two .is ∙ rw (one .is) (append-assoc (take n run) (one .words) (two .words));
       mean = map-append (metOf t) (one .words) (two .words) ∙ rw (one .mean, two .mean);
@@ -36,7 +41,12 @@ unfolding repeat
 map-repeat t zero ws = refl
 map-repeat t (suc r) ws = map-append (metOf t) ws (repeat r ws) ∙ ap (λ l. map (metOf t) ws ++ l) (map-repeat t r ws)
 
-module _ {t run : List ℕ} {n : ℕ} {ks : List Met} {out : List ℕ} {m : ℕ} (h : n ≤ length run) (w : Ran t run n ks out m) where
+words-repeat : (c r : ℕ) (ws : List ℕ) → RunWords c ws → RunWords c (repeat r ws)
+unfolding repeat
+words-repeat c zero ws h = tt
+words-repeat c (suc r) ws h = words-append c ws (repeat r ws) h (words-repeat c r ws h)
+
+module _ {t : List ℕ} {c : ℕ} {run : List ℕ} {n : ℕ} {ks : List Met} {out : List ℕ} {m : ℕ} (h : n ≤ length run) (w : Ran t c run n ks out m) where
   front-long : length (take n run) ≡ n
   front-long = length-take-le n run h
 
@@ -59,11 +69,12 @@ module _ {t run : List ℕ} {n : ℕ} {ks : List Met} {out : List ℕ} {m : ℕ}
   pub ran-means : map (metOf t) (take (m - n) (drop n out)) ≡ ks
   ran-means = rw ran-part (w .mean)
 
-  pub ran-repeat : {r : ℕ} {last : List ℕ} {e : ℕ} → Repeated out n m r last e → Ran t run n (repeat r ks) last e
+  pub ran-repeat : {r : ℕ} {last : List ℕ} {e : ℕ} → Repeated out n m r last e → Ran t c run n (repeat r ks) last e
   ran-repeat {r} p =
       let d : m - n ≡ length ks = omega (arith, w .count) in
       record {
         words = repeat r (w .words);
+        sound = words-repeat c r (w .words) (w .sound);
         count = p .ends ∙ rw d (omega (arith, length-repeat r ks));
         is = p .is ∙ rw (ran-front, ran-part);
         mean = map-repeat t r (w .words) ∙ rw (w .mean);

@@ -44,7 +44,7 @@ module _ {a : List ℕ} {l i to : ℕ} {run : List ℕ} {e : ℕ} (f : Fits a l 
         }
 
     pub fits-again : {out : List ℕ} {m : ℕ}
-        → length out ≡ length run → Ran (f .t) run e (met (g .inside)) out m → Repeatable out e m (repeatOf (getD a i 0))
+        → length out ≡ length run → Ran (f .t) (f .c) run e (met (g .inside)) out m → Repeatable out e m (repeatOf (getD a i 0))
     fits-again {out} {m} k w =
         let s = few-group (g .r) (g .inside) (g .next) in-range in
         let d : m - e ≡ size (g .inside) = omega (arith, w .count, met-is-size (g .inside)) in
@@ -80,7 +80,7 @@ pub record Rest (a t : List ℕ) (c l to : ℕ) (run₀ : List ℕ) (n : ℕ) (r
   pub ranges : AllWithin (numbers xs) → AllWithin (numbers zs)
   pub done : List Met
   pub split : met xs ≡ done ++ met zs
-  pub ran : Ran t run₀ n done run e
+  pub ran : Ran t c run₀ n done run e
   pub final : n + returnIndex xs ≡ finalBack back e zs
 
 pub record Unrolling (a : List ℕ) (l from to : ℕ) (run₀ : List ℕ) (n : ℕ) (run : List ℕ) (e back i : ℕ) : Type 0 where
@@ -117,7 +117,7 @@ module _ {a : List ℕ} {l from to : ℕ} {run₀ : List ℕ} {n : ℕ} {run : L
         room = omega (arith, f .room, g .ran .count, w .long);
       }
 
-  pub unrolling-all : to ≤ i → (t : List ℕ) (c : ℕ) (xs : Items) → Holds a t c l from xs to → Ran t run₀ n (met xs) run e
+  pub unrolling-all : to ≤ i → (t : List ℕ) (c : ℕ) (xs : Items) → Holds a t c l from xs to → Ran t c run₀ n (met xs) run e
   unfolding met
   unrolling-all b t c xs h =
       let g = w .all t c xs h in
@@ -132,7 +132,7 @@ module _ {a : List ℕ} {l from to : ℕ} {run₀ : List ℕ} {n : ℕ} {run : L
 
   module _ (b : i < to) where
     pub unrolling-group : {out last : List ℕ} {m end : ℕ} → kindOf (wordOf (getD a i 0)) ≡ 9 → e ≤ length run
-        → ((t : List ℕ) (c : ℕ) (ys : Items) → Holds a t c (l - 1) (i + 1) ys (endOf a i) → Ran t run e (met ys) out m)
+        → ((t : List ℕ) (c : ℕ) (ys : Items) → Holds a t c (l - 1) (i + 1) ys (endOf a i) → Ran t c run e (met ys) out m)
         → Repeated out e m (repeatOf (getD a i 0)) last end → length out ≡ length run → length last ≡ length out
         → Unrolling a l from to run₀ n last end e (endOf a i)
     unrolling-group {out} {last} {m} {end} kind low call p j k =
@@ -169,8 +169,8 @@ module _ {a : List ℕ} {l from to : ℕ} {run₀ : List ℕ} {n : ℕ} {run : L
         step t c xs g =
             let v = as-other (g .holds) b kind in
             let u : e ≤ length run = omega arith in
-            let q : Ran t run e (repeat (repeatOf (getD a i 0)) (v .k ∷ [])) last end =
-            ran-repeat u (ran-one (wordOf (getD a i 0)) low (v .means)) p in
+            let q : Ran t c run e (repeat (repeatOf (getD a i 0)) (v .k ∷ [])) last end =
+            ran-repeat u (ran-one (wordOf (getD a i 0)) low (v .means) (v .sound)) p in
             let s : end ≡ e + repeatOf (getD a i 0) =
             q .count ∙ rw (length-repeat (repeatOf (getD a i 0)) (v .k ∷ []), mul-one) in
             record {

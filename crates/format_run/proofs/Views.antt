@@ -10,6 +10,7 @@ use Rattle.format_grammar.specs.Met.{Met}
 use Rattle.format_words.specs.Words.{kindOf, firstOf, wordOf, repeatOf, metOf}
 use Rattle.format_words.specs.Held.{First, Holds}
 use Rattle.format_words.proofs.HeldLaws.{holds-le}
+use Rattle.format_run.specs.Runs.{RunWord}
 
 -- where a group's entries end
 abbrev pub endOf : List ℕ → ℕ → ℕ
@@ -54,6 +55,7 @@ pub record Other (a t : List ℕ) (c l n : ℕ) (xs : Items) (m : ℕ) : Type 0 
   pub next : Items
   pub first : First xs (repeatOf (getD a n 0)) k next
   pub means : metOf t (wordOf (getD a n 0)) ≡ k
+  pub sound : RunWord c (wordOf (getD a n 0))
   pub two : Holds a t c l (n + 1) next m
 
 module _ {a t : List ℕ} {c : ℕ} where
@@ -61,7 +63,7 @@ module _ {a t : List ℕ} {c : ℕ} where
       → Holds a t c l n xs m → n < m → (kindOf (wordOf (getD a n 0)) ≡ 9 → ⊥) → Other a t c l n xs m
   as-other Holds.none h e = absurd (omega arith)
   as-other (Holds.single {k} {next} f i s u) h e =
-      record { k = k; next = next; first = rw (← s .repeats) at f; means = s .is; two = u }
+      record { k = k; next = next; first = rw (← s .repeats) at f; means = s .is; sound = (s .kind, s .reaches); two = u }
   as-other (Holds.group i g h k) b e = absurd (e (g .kind))
 
   pub in-entries : {l n m : ℕ} {xs : Items} → Holds a t c l n xs m → n < m → n < length a

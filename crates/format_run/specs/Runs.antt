@@ -1,7 +1,7 @@
 -- A run: the items met, as words one after another.
 -- Assumes nothing.
 use mathlib.Core.Path.{_≡_}
-use mathlib.Core.List.{List, _++_, map}
+use mathlib.Core.List.{List, [], _∷_, _++_, map}
 use Prim.Native.Nat.{ℕ, _+_, _-_, _*_, _<_, _≤_}
 use lib.ListN.{length, take, drop}
 use Rattle.format_grammar.specs.Items.{Items}
@@ -9,7 +9,7 @@ use Rattle.format_grammar.specs.Ranges.{numbers}
 use Rattle.format_grammar.specs.Promises.{AllWithin}
 use Rattle.format_grammar.specs.Size.{size}
 use Rattle.format_grammar.specs.Met.{Met, repeat}
-use Rattle.format_words.specs.Words.{metOf}
+use Rattle.format_words.specs.Words.{kindOf, kindGroup, metOf, reach}
 use Rattle.format_words.specs.Held.{Holds}
 
 -- the words from n up to m can be had r times instead of once
@@ -34,9 +34,18 @@ pub record Fits (a : List ℕ) (level from to : ℕ) (run : List ℕ) (n : ℕ) 
   pub ranges : AllWithin (numbers items)
   pub room : n + size items ≤ length run
 
+-- a word of a run is of no group, and a literal's characters are among the first c
+abbrev pub RunWord : ℕ → ℕ → Type 0
+RunWord c w = (kindOf w < kindGroup) × (reach w ≤ c)
+
+abbrev pub RunWords : ℕ → List ℕ → Type 0
+RunWords c [] = Unit {0}
+RunWords c (w ∷ ws) = RunWord c w × RunWords c ws
+
 -- the first m words of out are the first n of run, and words that stand for the items met ks
-pub record Ran (t run : List ℕ) (n : ℕ) (ks : List Met) (out : List ℕ) (m : ℕ) : Type 0 where
+pub record Ran (t : List ℕ) (c : ℕ) (run : List ℕ) (n : ℕ) (ks : List Met) (out : List ℕ) (m : ℕ) : Type 0 where
   pub words : List ℕ
+  pub sound : RunWords c words
   pub count : m ≡ n + length ks
   pub is : take m out ≡ take n run ++ words
   pub mean : map (metOf t) words ≡ ks

@@ -43,7 +43,7 @@ pub fn unroll(
     n: usize,
 ) -> Unrolled
     requires { ⌜ Fits (now entries) level from to (now run) n ⌝ }
-    ensures ran { λ r. ⌜ ((t : List ℕ) (c : ℕ) (xs : Items) → Holds (now (entries .entry)) t c level from xs to → Ran t (now (run .entry)) n (met xs) (now (run .exit)) (r .end)) ⌝ }
+    ensures ran { λ r. ⌜ ((t : List ℕ) (c : ℕ) (xs : Items) → Holds (now (entries .entry)) t c level from xs to → Ran t c (now (run .entry)) n (met xs) (now (run .exit)) (r .end)) ⌝ }
     ensures returns { λ r. ⌜ ((t : List ℕ) (c : ℕ) (xs : Items) → Holds (now (entries .entry)) t c level from xs to → r .back ≡ n + returnIndex xs) ⌝ }
 {
     let mut end = n;

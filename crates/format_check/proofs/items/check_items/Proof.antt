@@ -1,5 +1,6 @@
 -- `format_check::items::check_items` meets its contract.
 -- Assumes nothing.
+use native.Mathlib.Omega.{arith}
 use Rattle.format_check.proofs.CheckSteps.{row-grammar, row-range, row-size, row-none, held}
 use borrow.Author.Needs.{needs}
 use Rattle.format_check.proofs.items.check_items.Statement.{statement}
@@ -54,7 +55,8 @@ same-length-8 : tie.Need-same-length-8
 same-length-8 c = search needs
 
 returns-4 : tie.Need-returns-4
-returns-4 c = let i = rw (c .before .before .before .before .before .before .end .given .1) at (c .before .before .before .before .before .before .before .before .before .before .before .before .read-format .ensures) in row-none i (c .before .before .before .if1 .left) _ (c .before .size-of .ensures .0 _ _ (i .read) (i .holds)) (c .if2 .left)
+returns-4 c = let i = rw (c .before .before .before .before .before .before .end .given .1) at (c .before .before .before .before .before .before .before .before .before .before .before .before .read-format .ensures) in
+    row-none i (c .before .before .before .if1 .left) _ (c .before .size-of .ensures .0 _ _ (i .read) (i .holds)) (c .if2 .left) (omega (arith, c .before .before .before .before .before .before .before .before .before .before .before .before .before .before .before .before .before .before .pre .2, c .before .before .before .before .before .before .before .before .before .before .before .before .read-format .kept .1 .1 .0))
 
 pub check-items-spec : {M : Type 1} → statement M
 check-items-spec =
