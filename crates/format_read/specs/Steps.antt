@@ -12,7 +12,7 @@ use Rattle.format_grammar.specs.Items.{Number, valueOf, Repeat, times, Items, j
 use Rattle.format_grammar.specs.Ranges.{Ranged, ranged, outside, place, repeatNumbers, numbers}
 use Rattle.format_grammar.specs.Met.{Met}
 use Rattle.format_grammar.specs.Reading.{Use, Mode, Open, State, Reading, wanted, separated, used, readAt}
-use Rattle.format_words.specs.Words.{word, kindOf, metOf}
+use Rattle.format_words.specs.Words.{word, wordBound, kindOf, metOf}
 use Rattle.format_words.specs.Held.{First, Holds}
 use Rattle.format_read.specs.declared.Position.{Position}
 use Rattle.format_read.specs.declared.Single.{Single}
@@ -56,7 +56,7 @@ pub record ItemRead (s : List ℕ) (a : ℕ) (m : Mode) (ns : List Ranged) (leas
   pub kind : kindOf w < 8
   pub numbers-are : numbers item ≡ ns ++ late
   pub outside-is : o' ≡ outsideAfter o late
-  pub low-word : w < 33554432
+  pub low-word : w < wordBound
   pub few : r < 1000
   pub more : least ≤ next
   pub high : next ≤ length s

@@ -12,6 +12,10 @@ use Rattle.format_grammar.specs.Met.{Met}
 abbrev pub word : ℕ → ℕ → ℕ → ℕ
 word kind first second = (second * 1024 + first) * 16 + kind
 
+-- no word is as large, a second number being at most 1,024
+abbrev pub wordBound : ℕ
+wordBound = 33554432
+
 abbrev pub kindOf : ℕ → ℕ
 kindOf w = w % 16
 
