@@ -1,18 +1,10 @@
 // A run of digits.
 use crate::Run;
 use number::LARGEST;
-ghost use mathlib.Core.Path.{_≡_};
 ghost use Prim.Native.Nat.{_≤_};
 ghost use lib.ListN.{length};
 ghost use Rattle.number.specs.Limits.{largest};
 ghost use Rattle.field_read.specs.Steps.{RunIs};
-
-// A byte as a u64.
-fn wide(b: u8) -> u64
-    ensures { λ r. ⌜ r ≡ b ⌝ }
-{
-    b as u64
-}
 
 // The digits from `from` on, blanks passed over, after the number v.
 pub fn read_run(part: &[u8], from: usize, v: u64) -> Run
@@ -28,7 +20,7 @@ pub fn read_run(part: &[u8], from: usize, v: u64) -> Run
             i += 1;
         } else {
             if number::digits::is_digit(b) {
-                value = value * 10 + wide(b - b'0');
+                value = value * 10 + number::digits::wide(b - b'0');
                 if LARGEST < value {
                     return Run::TooLarge;
                 }

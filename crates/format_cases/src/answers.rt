@@ -3,22 +3,16 @@ use format_check::FormatCheck;
 use format_grammar::FormatRefusal;
 use libc::STDOUT_FILENO;
 
-// A refusal with a place.
-fn refused(number: u64, place: usize) {
-    io::write_all(STDOUT_FILENO, b"refused ");
-    io::print_decimal(STDOUT_FILENO, number);
-    io::write_all(STDOUT_FILENO, b" ");
-    io::print_decimal(STDOUT_FILENO, place as u64);
-    io::write_all(STDOUT_FILENO, b"\n");
-}
-
+// A refusal's number and place.
 fn show_refusal(refusal: FormatRefusal) {
-    match refusal {
-        FormatRefusal::Length => refused(2, 1024),
-        FormatRefusal::Grammar { place } => refused(3, place),
-        FormatRefusal::Range { place } => refused(4, place),
-        FormatRefusal::Size => refused(5, 0),
-    }
+    io::write_all(STDOUT_FILENO, b"refused ");
+    io::print_decimal(STDOUT_FILENO, format_check::refusal::number_of(refusal));
+    io::write_all(STDOUT_FILENO, b" ");
+    io::print_decimal(
+        STDOUT_FILENO,
+        format_check::refusal::place_of(refusal) as u64,
+    );
+    io::write_all(STDOUT_FILENO, b"\n");
 }
 
 pub fn show_check(format: &[u8]) {

@@ -5,11 +5,9 @@ use mathlib.Core.List.{List}
 use Prim.Native.Nat.{ℕ, _≤_}
 use lib.ListN.{length}
 use Rattle.format_grammar.specs.Items.{Items}
-use Rattle.format_grammar.specs.Ranges.{numbers}
+use Rattle.format_grammar.specs.Ranges.{numbers, AllWithin}
 use Rattle.format_grammar.specs.Size.{size}
-use Rattle.format_grammar.specs.Reading.{reading}
-use Rattle.format_grammar.specs.Check.{Outcome, accepted, refused, checkGrammar, refusalNumber, refusalPlace}
-use Rattle.format_grammar.specs.Promises.{AllWithin}
+use Rattle.format_grammar.specs.Check.{Outcome, accepted, refused, outcome, refusalNumber, refusalPlace}
 use Rattle.format_words.specs.Held.{Holds}
 use Rattle.format_check.specs.declared.FormatCheck.{FormatCheck}
 use Rattle.format_check.specs.declared.FormatCheck.the-variants as check
@@ -30,11 +28,11 @@ abbrev pub answerPlace : FormatCheck → ℕ
 answerPlace check.Accepted = 0
 answerPlace (check.Refused w) = refusalPlace w
 
--- a text of the grammar, with its ranges and its size kept: the first n entries of a hold its items, the characters of
--- their literals are among the first c of t, and their size is k
+-- an accepted format: the first n entries of a hold its items, the characters of their literals are among the first c of t,
+-- and their size is k
 pub record ItemsHeld (s a t : List ℕ) (n k : ℕ) : Type 0 where
   pub items : Items
-  pub accepts : checkGrammar (reading s) ≡ accepted items
+  pub accepts : outcome s ≡ accepted items
   pub c : ℕ
   pub holds : Holds a t c 4 0 items n
   pub within : c ≤ length t
@@ -42,6 +40,7 @@ pub record ItemsHeld (s a t : List ℕ) (n k : ℕ) : Type 0 where
   pub sized : k ≡ size items
   pub small : k ≤ 4096
 
+-- the items, or the refusal
 abbrev pub itemsChecked : List ℕ → List ℕ → List ℕ → ItemsChecked → Type 0
 itemsChecked s a t (checked.Items n k) = ItemsHeld s a t n k
-itemsChecked s a t (checked.Refused w) = checkGrammar (reading s) ≡ refused w
+itemsChecked s a t (checked.Refused w) = outcome s ≡ refused w

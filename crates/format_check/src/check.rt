@@ -6,8 +6,7 @@ use format_grammar::FormatRefusal;
 ghost use mathlib.Core.Path.{_≡_};
 ghost use Prim.Native.Nat.{_≤_};
 ghost use lib.ListN.{length};
-ghost use Rattle.format_grammar.specs.Check.{outcome, checkGrammar, outcomeNumber, outcomePlace};
-ghost use Rattle.format_grammar.specs.Reading.{reading};
+ghost use Rattle.format_grammar.specs.Check.{outcome, outcomeNumber, outcomePlace};
 ghost use Rattle.format_check.specs.Checked.{answer, answerNumber, answerPlace};
 
 // The longest format.
@@ -16,7 +15,7 @@ pub const LONGEST_FORMAT: usize = 1024;
 // Rows 3 to 5, with room for the text's items.
 fn check_with(text: &[u8], entries: &mut [u64], chars: &mut [u8]) -> FormatCheck
     requires { ⌜ (length (now text) ≤ 1024) × (length (now text) ≤ length (now entries)) × (length (now text) ≤ length (now chars)) ⌝ }
-    ensures { λ r. ⌜ r ≡ answer (checkGrammar (reading (now (text .entry)))) ⌝ }
+    ensures { λ r. ⌜ r ≡ answer (outcome (now (text .entry))) ⌝ }
 {
     match check_items(text, entries, chars) {
         ItemsChecked::Refused(refusal) => FormatCheck::Refused(refusal),
@@ -30,7 +29,7 @@ fn check_with(text: &[u8], entries: &mut [u64], chars: &mut [u8]) -> FormatCheck
 // A text of at most 64 bytes.
 fn check_short(text: &[u8]) -> FormatCheck
     requires { ⌜ length (now text) ≤ 64 ⌝ }
-    ensures { λ r. ⌜ r ≡ answer (checkGrammar (reading (now (text .entry)))) ⌝ }
+    ensures { λ r. ⌜ r ≡ answer (outcome (now (text .entry))) ⌝ }
 {
     let mut entries = [0u64; 64];
     let mut chars = [0u8; 64];
@@ -40,7 +39,7 @@ fn check_short(text: &[u8]) -> FormatCheck
 // A text of at most 256 bytes.
 fn check_middle(text: &[u8]) -> FormatCheck
     requires { ⌜ length (now text) ≤ 256 ⌝ }
-    ensures { λ r. ⌜ r ≡ answer (checkGrammar (reading (now (text .entry)))) ⌝ }
+    ensures { λ r. ⌜ r ≡ answer (outcome (now (text .entry))) ⌝ }
 {
     let mut entries = [0u64; 256];
     let mut chars = [0u8; 256];
@@ -50,7 +49,7 @@ fn check_middle(text: &[u8]) -> FormatCheck
 // A text of at most 1,024 bytes.
 fn check_long(text: &[u8]) -> FormatCheck
     requires { ⌜ length (now text) ≤ 1024 ⌝ }
-    ensures { λ r. ⌜ r ≡ answer (checkGrammar (reading (now (text .entry)))) ⌝ }
+    ensures { λ r. ⌜ r ≡ answer (outcome (now (text .entry))) ⌝ }
 {
     let mut entries = [0u64; 1024];
     let mut chars = [0u8; 1024];

@@ -3,13 +3,11 @@ use crate::ItemsChecked;
 use format_grammar::FormatRefusal;
 use format_read::Answer;
 use format_read::format::read_format;
+use format_run::size::LARGEST_SIZE;
 use format_run::size::size_of;
 ghost use Prim.Native.Nat.{_≤_};
 ghost use lib.ListN.{length};
 ghost use Rattle.format_check.specs.Checked.{itemsChecked};
-
-// The largest size of a format.
-pub const LARGEST_SIZE: u64 = 4096;
 
 // The items of a text, as entries and characters; refused where the text is not of the grammar, a number is out of its
 // range, or the size is too large.

@@ -1,6 +1,7 @@
 // The format check: rows 2 to 5 of document 01's 'Checks by place'.
 pub mod check;
 pub mod items;
+pub mod refusal;
 
 use format_grammar::FormatRefusal;
 

@@ -14,7 +14,7 @@ use Rattle.format_grammar.specs.Grammar.{RepeatAt, FieldAt, Nonterminal,
 use Rattle.format_grammar.specs.Reading.{Use, Mode, Open, State, Reading, step, stepWithin, wanted, begun, close, readAt, reading}
 use Rattle.format_grammar.proofs.ItemLaws.{join-assoc, join-none}
 use Rattle.format_grammar.proofs.ReadLaws.{read-byte, read-same, read-end, step-used}
-use Rattle.format_grammar.proofs.NumberLaws.{not-digit, written-none, read-after, read-repeat, Follows, follows, read-ended}
+use Rattle.format_grammar.proofs.NumberLaws.{not-digit, written-absent, read-after, read-repeat, Follows, follows, read-ended}
 use Rattle.format_grammar.proofs.LiteralLaws.{read-literal}
 
 -- ---- items
@@ -25,7 +25,7 @@ read-A : (s : List ℕ) (a l : ℕ) (xs : Items) (q : Open) (r : Repeat) → Fol
 unfolding step stepWithin
 read-A s a l xs q r f =
     read-same s a (State.within (Mode.digits (Use.widthA r) a 0) l xs q) (State.within Mode.after l (join xs (Items.field r Field.A Items.none)) q)
-    (λ z. step-used (Use.widthA r) a 0 a l xs q (getD s a 0) (not-digit a a (getD s a 0) (f .no-digit)) ∙ rw (written-none a 0)) refl
+    (λ z. step-used (Use.widthA r) a 0 a l xs q (getD s a 0) (not-digit a a (getD s a 0) (f .no-digit)) ∙ rw (written-absent a a 0 refl)) refl
 
 read-field : {s : List ℕ} {a b c : ℕ} {r : Repeat} {k : Field Number} → RepeatAt s a r b → FieldAt s b k c → Follows s c → (l : ℕ) (xs : Items) (q : Open)
     → readAt s a (State.within (wanted a) l xs q) ≡ readAt s c (State.within Mode.after l (join xs (Items.field r k Items.none)) q)

@@ -15,7 +15,7 @@ use Rattle.format_grammar.specs.Items.{Number, number, Repeat, Field, It
 use Rattle.format_grammar.specs.Grammar.{Mark}
 use Rattle.format_grammar.specs.Reading.{Use, Mode, Open, State, Reading, step, stepWithin, used, written, close, unlessDead, isEmpty, readFrom}
 use Rattle.format_grammar.proofs.ReadLaws.{step-digit, step-used, close-live}
-use Rattle.format_grammar.proofs.NumberLaws.{not-digit, written-some}
+use Rattle.format_grammar.proofs.NumberLaws.{not-digit, written-given}
 use Rattle.format_grammar.proofs.LiteralLaws.{step-mark, step-again, step-behind}
 use Rattle.format_grammar.proofs.Reached.{UsedAt, Reached}
 
@@ -51,7 +51,7 @@ module _ (l : ℕ) (xs : Items) (q : Open) (u : Use) (c : ℕ) (to : Number → 
   some-ends : (from v at : ℕ) → from < at → Ends at (State.within (Mode.digits u from v) l xs q)
   some-ends from v at h =
       let n : Number = number from v in
-      ends-by at _ c (to n at) (step-used u from v at l xs q c (not-digit at from c no-digit) ∙ rw (written-some from at v h) (does n at)) (live n at) (more n at)
+      ends-by at _ c (to n at) (step-used u from v at l xs q c (not-digit at from c no-digit) ∙ rw (written-given from at v (λ z. omega arith)) (does n at)) (live n at) (more n at)
 
   -- before the first digit, a digit 1 first
   number-ends : (from v at : ℕ) → from ≤ at → Ends at (State.within (Mode.digits u from v) l xs q)

@@ -16,14 +16,14 @@ use Rattle.format_grammar.specs.Grammar.{part, Mark, Printable, doubled,
 use Rattle.format_grammar.specs.Reading.{Use, Mode, Open, State, step, stepWithin, wanted, begun, isEmpty, readAt}
 use Rattle.format_grammar.proofs.ReadLaws.{read-step, read-same, step-used}
 use Rattle.format_grammar.proofs.PartLaws.{part-length, first}
-use Rattle.format_grammar.proofs.NumberLaws.{not-digit, written-none, Follows}
+use Rattle.format_grammar.proofs.NumberLaws.{not-digit, written-absent, Follows}
 
 -- ---- the steps in a literal
 
 step-open : (m at l : ℕ) (xs : Items) (q : Open) → Mark m → step at (State.within (wanted at) l xs q) m ≡ State.within (Mode.inside m []) l xs q
 step-open m at l xs q h =
     let go : (c : ℕ) → isDigit c ≡ false → begun Repeat.absent at l xs q c ≡ State.within (Mode.inside c []) l xs q → step at (State.within (wanted at) l xs q) c ≡ State.within (Mode.inside c []) l xs q =
-    λ c e f. step-used Use.start at 0 at l xs q c (not-digit at at c e) ∙ rw (written-none at 0) f in
+    λ c e f. step-used Use.start at 0 at l xs q c (not-digit at at c e) ∙ rw (written-absent at at 0 refl) f in
     ⊎-elim (λ e. rw e (go apostrophe refl refl)) (λ e. rw e (go quotationMark refl refl)) h
 
 pub step-mark : (m : ℕ) (cs : List ℕ) (at l : ℕ) (xs : Items) (q : Open) → step at (State.within (Mode.inside m cs) l xs q) m ≡ State.within (Mode.mark m cs) l xs q

@@ -8,9 +8,9 @@ use native.Mathlib.Omega.{arith}
 use lib.ListN.{length, replicate, length-append, length-replicate}
 use Rattle.format_grammar.specs.Items.{Number, Repeat, times, Field, Items}
 use Rattle.format_grammar.specs.Grammar.{Nonterminal, Derives}
-use Rattle.format_grammar.specs.Ranges.{repeatNumbers, fieldNumbers, numbers}
+use Rattle.format_grammar.specs.Ranges.{repeatNumbers, fieldNumbers, numbers, AllWithin}
 use Rattle.format_grammar.specs.Met.{Met, fieldValues, repeat, met}
-use Rattle.format_grammar.specs.Promises.{AllWithin, MetWithin, AllMetWithin, MetInRange}
+use Rattle.format_grammar.specs.Promises.{MetWithin, AllMetWithin, MetInRange}
 use Rattle.format_grammar.proofs.ItemLaws.{numbers-join}
 use Rattle.format_grammar.proofs.RangeLaws.{within-left, within-right}
 use Rattle.format_grammar.proofs.MetLaws.{length-repeat, met-join}

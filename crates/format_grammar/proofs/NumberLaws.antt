@@ -26,11 +26,12 @@ not-digit at from b e = go (ltb at (from + 3))
     go true = e
     go false = refl
 
-pub written-some : (a b v : ℕ) → a < b → written a b v ≡ Repeat.given (number a v)
-written-some a b v h = rw (ne-eqb b a (λ z. omega arith))
+-- the number between two offsets
+pub written-given : (a b v : ℕ) → (b ≡ a → ⊥) → written a b v ≡ Repeat.given (number a v)
+written-given a b v h = rw (ne-eqb b a h)
 
-pub written-none : (a v : ℕ) → written a a v ≡ Repeat.absent
-written-none a v = rw (eq-eqb a a refl)
+pub written-absent : (a b v : ℕ) → b ≡ a → written a b v ≡ Repeat.absent
+written-absent a b v e = rw (eq-eqb b a e)
 
 -- digits from a on
 read-digits : (s : List ℕ) (u : Use) (a l : ℕ) (xs : Items) (q : Open) (k : ℕ) → k ≤ 3 → a + k ≤ length s → Digits (part s a (a + k))
@@ -55,7 +56,7 @@ read-number {s} {a} {b} {n} h u l xs q =
 pub number-used : {s : List ℕ} {a b : ℕ} {n : Number} → NumberAt s a n b → (u : Use) (l : ℕ) (xs : Items) (q : Open) (c : ℕ) → isDigit c ≡ false
     → step b (State.within (Mode.digits u a (valueOf n)) l xs q) c ≡ used u (Repeat.given n) b l xs q c
 number-used {s} {a} {b} {n} h u l xs q c e =
-    step-used u a (valueOf n) b l xs q c (not-digit b a c e) ∙ rw (h .is, written-some a b (value (part s a b)) (h .some))
+    step-used u a (valueOf n) b l xs q c (not-digit b a c e) ∙ rw (h .is, written-given a b (value (part s a b)) (λ z. omega (arith, h .some)))
 
 -- a number, and a byte after it that is no digit
 pub read-after : {s : List ℕ} {a b : ℕ} {n : Number} → NumberAt s a n b → (u : Use) (l : ℕ) (xs : Items) (q : Open) (c : ℕ) (to : State)
@@ -70,7 +71,7 @@ pub read-repeat : {s : List ℕ} {a b : ℕ} {r : Repeat} → RepeatAt s a r b �
     → At s b c → isDigit c ≡ false → begun r b l xs q c ≡ to → ((x y : Reading) → unlessDead to x y ≡ y)
     → readAt s a (State.within (wanted a) l xs q) ≡ readAt s (b + 1) to
 read-repeat (RepeatAt.absent {a}) l xs q c to here e f live =
-    read-byte (State.within (wanted a) l xs q) to here (step-used Use.start a 0 a l xs q c (not-digit a a c e) ∙ rw (written-none a 0) f) live
+    read-byte (State.within (wanted a) l xs q) to here (step-used Use.start a 0 a l xs q c (not-digit a a c e) ∙ rw (written-absent a a 0 refl) f) live
 read-repeat (RepeatAt.given h) l xs q c to here e f live = read-after h Use.start l xs q c to here e f live
 
 -- after an item: the byte at b is no digit and no mark

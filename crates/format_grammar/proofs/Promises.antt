@@ -10,13 +10,13 @@ use lib.Dec.{ltb}
 use lib.ListN.{length}
 use Rattle.format_grammar.specs.Items.{Items}
 use Rattle.format_grammar.specs.Grammar.{Format}
-use Rattle.format_grammar.specs.Ranges.{numbers, FirstOutside, nowhere, at, firstOutside}
+use Rattle.format_grammar.specs.Ranges.{numbers, FirstOutside, nowhere, at, firstOutside, AllWithin}
 use Rattle.format_grammar.specs.Size.{size, largestSize}
 use Rattle.format_grammar.specs.Reading.{Reading, items, wrong, reading}
 use Rattle.format_grammar.specs.Check.{longestFormat, Outcome, accepted, refused, checkSize, checkRange, checkGrammar, outcome, refusalNumber, refusalPlace, outcomeNumber, outcomePlace}
 use Rattle.format_grammar.specs.declared.FormatRefusal.{FormatRefusal}
 use Rattle.format_grammar.specs.declared.FormatRefusal.the-variants.{Length, Grammar, Range, Size}
-use Rattle.format_grammar.specs.Promises.{Answers, Acceptable, TooLong, NotGrammatical, OutOfRange, TooLarge, AllWithin, Verdict, AcceptsExactly, OneReading, LengthRefused, GrammarRefused, RangeRefused, SizeRefused, AlwaysAnswered, NumbersInOrder, MetIsSize, MetInRange, ReturnPartIs, ReturnIndexIs}
+use Rattle.format_grammar.specs.Promises.{Answers, Acceptable, TooLong, NotGrammatical, OutOfRange, TooLarge, Verdict, AcceptsExactly, OneReading, LengthRefused, GrammarRefused, RangeRefused, SizeRefused, AlwaysAnswered, NumbersInOrder, MetIsSize, MetInRange, ReturnPartIs, ReturnIndexIs}
 use Rattle.format_grammar.proofs.Complete.{complete}
 use Rattle.format_grammar.proofs.Sound.{sound}
 use Rattle.format_grammar.proofs.Place.{place-is, one-place}
@@ -86,7 +86,7 @@ said s = go (ltb longestFormat (length s)) refl
 
 -- ---- the outcome, from what is known of the text
 
-outcome-short : (s : List ℕ) → length s ≤ longestFormat → outcome s ≡ checkGrammar (reading s)
+pub outcome-short : (s : List ℕ) → length s ≤ longestFormat → outcome s ≡ checkGrammar (reading s)
 unfolding outcome
 outcome-short s h = rw (le-ltb longestFormat (length s) h)
 

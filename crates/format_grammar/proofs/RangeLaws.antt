@@ -8,8 +8,8 @@ use native.Mathlib.Omega.{arith}
 use borrow.Author.Tests.{ltb-false, le-ltb}
 use lib.Dec.{ltb}
 use Rattle.format_grammar.specs.Items.{valueOf}
-use Rattle.format_grammar.specs.Ranges.{Ranged, ranged, outside, place, nowhere, at, firstOutside}
-use Rattle.format_grammar.specs.Promises.{Within, AllWithin, FirstOutsideAt}
+use Rattle.format_grammar.specs.Ranges.{Ranged, ranged, outside, place, nowhere, at, firstOutside, Within, AllWithin}
+use Rattle.format_grammar.specs.Promises.{FirstOutsideAt}
 
 -- ---- one number
 

@@ -6,25 +6,16 @@ use mathlib.Core.Bool.{false}
 use mathlib.Core.List.{List, [], _∷_, _++_}
 use Prim.Native.Nat.{ℕ, _<_, _≤_}
 use lib.ListN.{length, drop}
-use Rattle.format_grammar.specs.Items.{Number, valueOf, Repeat, Field, Items, join}
+use Rattle.format_grammar.specs.Items.{Number, Repeat, Field, Items, join}
 use Rattle.format_grammar.specs.Grammar.{NumberAt, Printable, Format, LongestShared}
-use Rattle.format_grammar.specs.Ranges.{Ranged, ranged, place, numbers}
+use Rattle.format_grammar.specs.Ranges.{Ranged, ranged, place, numbers, Within, AllWithin}
 use Rattle.format_grammar.specs.Size.{size, largestSize}
 use Rattle.format_grammar.specs.Met.{Met, met, hasGroup, returnPart, returnIndex}
 use Rattle.format_grammar.specs.Check.{longestFormat, accepted, outcome, outcomeNumber, outcomePlace}
 
 -- ---- numbers and their ranges
 
--- a number is within its range
-abbrev pub Within : Ranged → Type 0
-Within (ranged n low high) = (low ≤ valueOf n) × (valueOf n ≤ high)
-
--- every number is
-abbrev pub AllWithin : List Ranged → Type 0
-AllWithin [] = Unit {0}
-AllWithin (n ∷ ns) = Within n × AllWithin ns
-
--- the first number that is not stands at offset p
+-- the first number that is not within its range stands at offset p
 pub record FirstOutsideAt (ns : List Ranged) (p : ℕ) : Type 0 where
   pub before : List Ranged
   pub n : Ranged

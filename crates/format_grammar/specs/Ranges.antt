@@ -2,7 +2,7 @@
 -- Assumes nothing.
 use mathlib.Core.Bool.{Bool, _||_, cond}
 use mathlib.Core.List.{List, [], _∷_, _++_}
-use Prim.Native.Nat.{ℕ}
+use Prim.Native.Nat.{ℕ, _≤_}
 use lib.Dec.{ltb}
 use Rattle.format_grammar.specs.Items.{Number, offset, valueOf, Repeat, absent, given, Field, I, F, L, A, Aw, Items, none, field, group, X, T, slash, literal}
 
@@ -45,6 +45,15 @@ numbers (X n xs) = rangeN n ∷ numbers xs
 numbers (T n xs) = rangeN n ∷ numbers xs
 numbers (slash r xs) = repeatNumbers r ++ numbers xs
 numbers (literal cs xs) = numbers xs
+
+-- a number is within its range
+abbrev pub Within : Ranged → Type 0
+Within (ranged n low high) = (low ≤ valueOf n) × (valueOf n ≤ high)
+
+-- every number is
+abbrev pub AllWithin : List Ranged → Type 0
+AllWithin [] = Unit {0}
+AllWithin (n ∷ ns) = Within n × AllWithin ns
 
 -- 'a number out of range'
 abbrev pub outside : Ranged → Bool

@@ -13,10 +13,11 @@ use Rattle.format_grammar.specs.Reading.{Use, Mode, Open, State, wanted, writte
 use Rattle.format_words.specs.Words.{metOf}
 use Rattle.format_words.specs.Held.{First}
 use Rattle.format_words.proofs.WordLaws.{met-X, met-slash}
-use Rattle.format_read.specs.Steps.{NumberFound, outsideAfter, ItemRead, Stuck, itemRead, ended, NoBracketOrMark}
+use Rattle.format_read.specs.Steps.{NumberFound, outsideAfter, ItemRead, Stuck, itemRead, ended, NoBracketOrMark, NoFieldLetter}
 use Rattle.format_read.specs.declared.Single.{Single}
 use Rattle.format_read.specs.declared.Single.the-variants as single
-use Rattle.format_read.proofs.SingleSteps.{outside-append, written-given, number-stuck, number-on, plain-word}
+use Rattle.format_grammar.proofs.NumberLaws.{written-given}
+use Rattle.format_read.proofs.SingleSteps.{outside-append, number-stuck, number-on, plain-word}
 
 module _ {s : List ℕ} {from v at : ℕ} (f : NumberFound s from v at) (h : at < length s) (k : Repeat) (e : written from at v ≡ k) where
   -- a letter that a number follows
@@ -63,11 +64,10 @@ module _ {s : List ℕ} {from v at : ℕ} (f : NumberFound s from v at) (h : at 
         high = omega arith;
       }
 
-  pub begun-other : NoBracketOrMark (getD s at 0) → (getD s at 0 ≡ 73 → ⊥) → (getD s at 0 ≡ 70 → ⊥) → (getD s at 0 ≡ 76 → ⊥) → (getD s at 0 ≡ 65 → ⊥) → (getD s at 0 ≡ 84 → ⊥) → (getD s at 0 ≡ 88 → ⊥)
-      → (getD s at 0 ≡ 47 → ⊥) → Stuck s from (wanted from) at
-  begun-other n i j m a t x d =
+  pub begun-other : NoBracketOrMark (getD s at 0) → NoFieldLetter (getD s at 0) → (getD s at 0 ≡ 84 → ⊥) → (getD s at 0 ≡ 88 → ⊥) → (getD s at 0 ≡ 47 → ⊥) → Stuck s from (wanted from) at
+  begun-other n f t x d =
       let b = getD s at 0 in
-      begun-stuck (λ l xs q. simp (ne-eqb b 73 i, ne-eqb b 70 j, ne-eqb b 76 m, ne-eqb b 65 a, ne-eqb b 40 (n .no-bracket), ne-eqb b 88 x, ne-eqb b 84 t, ne-eqb b 47 d, ne-eqb b 39 (n .no-apostrophe), ne-eqb b 34 (n .no-quotation-mark)))
+      begun-stuck (λ l xs q. simp (ne-eqb b 73 (f .no-I), ne-eqb b 70 (f .no-F), ne-eqb b 76 (f .no-L), ne-eqb b 65 (f .no-A), ne-eqb b 40 (n .no-bracket), ne-eqb b 88 x, ne-eqb b 84 t, ne-eqb b 47 d, ne-eqb b 39 (n .no-apostrophe), ne-eqb b 34 (n .no-quotation-mark)))
 
 pub X-read : {s : List ℕ} {from v at : ℕ} → NumberFound s from v at → at < length s → (at ≡ from → ⊥) → getD s at 0 ≡ 88 → (o o₁ : ℕ) → o₁ ≡ outsideAfter o (repeatNumbers (written from at v))
     → ItemRead s from (wanted from) [] (from + 1) o (v * 16 + 5) 1 (at + 1) o₁

@@ -1,16 +1,18 @@
 -- The digits of a number, one after another.
 -- Assumes nothing.
 use mathlib.Core.Path.{_≡_, refl, _∙_}
-use mathlib.Core.Bool.{Bool, true, false, _&&_}
+use mathlib.Core.Bool.{true, false, _&&_}
 use mathlib.Core.List.{List}
 use Prim.Native.Nat.{ℕ, _+_, _-_, _*_, _<_, _≤_}
 use native.Mathlib.Omega.{arith}
-use borrow.Author.Tests.{le-ltb, leb-true}
-use lib.Dec.{ltb, leb}
+use borrow.Author.Tests.{le-ltb}
+use lib.Dec.{ltb}
 use lib.ListN.{length, getD}
 use Rattle.number.specs.Digits.{isDigit}
+use Rattle.number.proofs.DigitLaws.{digit-bounds}
 use Rattle.format_grammar.specs.Items.{Items}
 use Rattle.format_grammar.specs.Reading.{Use, Mode, Open, State, readAt}
+use Rattle.format_grammar.proofs.NumberLaws.{not-digit}
 use Rattle.format_grammar.proofs.ReadLaws.{read-step, step-digit}
 use Rattle.format_read.specs.Steps.{NumberFound}
 
@@ -28,13 +30,6 @@ pub record DigitsSoFar (s : List ℕ) (at value i : ℕ) : Type 0 where
 pub digits-none : (s : List ℕ) (at : ℕ) → at ≤ length s → DigitsSoFar s at 0 at
 digits-none s at h =
     record { runs = λ u l xs q. refl; low = omega arith; high = h; few = omega arith; small = omega arith; small2 = λ _. omega arith; small1 = λ _. omega arith; small0 = λ _. omega arith }
-
-and-parts : (a b : Bool) → (a && b) ≡ true → (a ≡ true) × (b ≡ true)
-and-parts true b e = (refl, e)
-and-parts false b e = (e, (cc))
-
-pub digit-bounds : (b : ℕ) → isDigit b ≡ true → (48 ≤ b) × (b ≤ 57)
-digit-bounds b e = let h = and-parts (leb 48 b) (leb b 57) e in (leb-true 48 b (h .0), leb-true b 57 (h .1))
 
 pub digits-more : {s : List ℕ} {at value i : ℕ} → DigitsSoFar s at value i → i < length s → i < at + 3 → (d : ℕ) → d ≡ getD s i 0 - 48 → isDigit (getD s i 0) ≡ true
     → DigitsSoFar s at (value * 10 + d) (i + 1)
@@ -57,12 +52,8 @@ stopped f e = record { runs = f .runs; stops = e; small = f .small; low = f .low
 pub digits-three : {s : List ℕ} {at value i : ℕ} → DigitsSoFar s at value i → at + 3 ≤ i → NumberFound s at value i
 digits-three {s} {at} {value} {i} f h = stopped f (λ _. simp (le-ltb i (at + 3) h))
 
-and-false : (a b : Bool) → b ≡ false → (a && b) ≡ false
-and-false true b e = e
-and-false false b e = refl
-
 pub digits-stop : {s : List ℕ} {at value i : ℕ} → DigitsSoFar s at value i → isDigit (getD s i 0) ≡ false → NumberFound s at value i
-digits-stop {s} {at} {value} {i} f e = stopped f (λ _. and-false (ltb i (at + 3)) (isDigit (getD s i 0)) e)
+digits-stop {s} {at} {value} {i} f e = stopped f (λ _. not-digit i at (getD s i 0) e)
 
 pub digits-end : {s : List ℕ} {at value i : ℕ} → DigitsSoFar s at value i → length s ≤ i → NumberFound s at value i
 digits-end f h = stopped f (λ g. absurd (omega arith))

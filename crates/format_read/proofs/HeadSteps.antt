@@ -13,7 +13,8 @@ use Rattle.format_grammar.specs.Ranges.{repeatNumbers}
 use Rattle.format_grammar.specs.Reading.{Use, Open, State, Reading, wanted, written, readAt}
 use Rattle.format_read.specs.Steps.{NumberFound, outsideAfter, Stuck, NoBracketOrMark, Opened}
 use Rattle.format_read.specs.declared.Position.{Position}
-use Rattle.format_read.proofs.SingleSteps.{written-given, number-stuck-at, number-on-at}
+use Rattle.format_grammar.proofs.NumberLaws.{written-given}
+use Rattle.format_read.proofs.SingleSteps.{number-stuck-at, number-on-at}
 use Rattle.format_read.proofs.BegunSteps.{begun-stuck}
 
 -- ---- an opening bracket

@@ -13,6 +13,7 @@ use Rattle.format_grammar.specs.Items.{Number, number, valueOf, Repeat, times, 
 use Rattle.format_grammar.specs.Ranges.{Ranged, ranged, repeatNumbers, fieldNumbers, numbers}
 use Rattle.format_grammar.specs.Met.{Met, fieldValues}
 use Rattle.format_grammar.specs.Reading.{Use, Mode, Open, State, Reading, pick, step, stepWithin, unlessDead, written, used, separated, readAt}
+use Rattle.format_grammar.proofs.NumberLaws.{written-absent, written-given}
 use Rattle.format_grammar.proofs.ReadLaws.{read-step, read-end, read-same, read-stuck, step-used}
 use Rattle.format_words.specs.Words.{word, kindOf, metOf}
 use Rattle.format_words.specs.Held.{First}
@@ -35,12 +36,6 @@ unfolding outsideAfter
 outside-none o = refl
 
 -- ---- the byte after a number
-
-pub written-absent : (from at v : ℕ) → at ≡ from → written from at v ≡ Repeat.absent
-written-absent from at v e = simp (eq-eqb at from e)
-
-pub written-given : (from at v : ℕ) → (at ≡ from → ⊥) → written from at v ≡ Repeat.given (number from v)
-written-given from at v e = simp (ne-eqb at from e)
 
 pub pick-same : (t : Bool) (a : State) → pick t a a ≡ a
 pick-same true a = refl

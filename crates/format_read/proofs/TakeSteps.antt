@@ -1,18 +1,19 @@
 -- Items read, with their entries and characters: one item, and one after another.
 -- Assumes nothing.
 use mathlib.Core.Path.{_≡_, refl, sym, ap, _∙_, subst}
-use mathlib.Core.Bool.{Bool, true, false, _&&_, _||_}
+use mathlib.Core.Bool.{Bool, true, false, _||_}
 use mathlib.Core.List.{List, [], _++_}
 use Prim.Native.Nat.{ℕ, _+_, _-_, _<_, _≤_}
 use native.Mathlib.Omega.{arith}
 use borrow.Author.Tests.{eq-eqb, eqb-true}
-use lib.Dec.{ltb, eqb}
+use lib.Dec.{eqb}
 use lib.ListN.{length, getD, take, drop, set, length-set}
 use lib.Seq.{getD-set-same, take-set-le, take-take, take-append-le, drop-at, length-take-le}
 use Rattle.format_grammar.specs.Items.{Items}
 use Rattle.format_grammar.specs.Ranges.{numbers}
 use Rattle.format_grammar.specs.Met.{Met}
 use Rattle.format_grammar.specs.Reading.{Use, Mode, Open, State, Reading, step, stepWithin, wanted, readAt}
+use Rattle.format_grammar.proofs.NumberLaws.{not-digit}
 use Rattle.format_grammar.proofs.ReadLaws.{read-step, step-used}
 use Rattle.format_words.specs.Words.{word, kindOf, metOf, reach, entry}
 use Rattle.format_words.specs.Held.{First, Single, Holds}
@@ -59,19 +60,15 @@ took-single {l} {p} {a} {w} {r} room i e t =
 
 -- ---- a literal
 
-and-false : (a : Bool) → (a && false) ≡ false
-and-false true = refl
-and-false false = refl
-
 begins-mark : (m at l : ℕ) (xs : Items) (q : Open) → (eqb m 39 || eqb m 34) ≡ true → step at (State.within (wanted at) l xs q) m ≡ State.within (Mode.inside m []) l xs q
 unfolding step stepWithin
 begins-mark m at l xs q e = go (eqb m 39) refl
   where
     at39 : m ≡ 39 → step at (State.within (wanted at) l xs q) m ≡ State.within (Mode.inside m []) l xs q
-    at39 z = rw z (step-used Use.start at 0 at l xs q 39 (and-false (ltb at (at + 3))) ∙ rw (eq-eqb at at refl))
+    at39 z = rw z (step-used Use.start at 0 at l xs q 39 (not-digit at at 39 refl) ∙ rw (eq-eqb at at refl))
 
     at34 : m ≡ 34 → step at (State.within (wanted at) l xs q) m ≡ State.within (Mode.inside m []) l xs q
-    at34 z = rw z (step-used Use.start at 0 at l xs q 34 (and-false (ltb at (at + 3))) ∙ rw (eq-eqb at at refl))
+    at34 z = rw z (step-used Use.start at 0 at l xs q 34 (not-digit at at 34 refl) ∙ rw (eq-eqb at at refl))
 
     go : (x : Bool) → eqb m 39 ≡ x → step at (State.within (wanted at) l xs q) m ≡ State.within (Mode.inside m []) l xs q
     go true f = at39 (eqb-true m 39 f)

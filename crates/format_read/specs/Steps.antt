@@ -7,7 +7,7 @@ use Prim.Native.Nat.{ℕ, _+_, _-_, _<_, _≤_}
 use lib.Dec.{ltb, eqb}
 use lib.ListN.{length, getD, take}
 use Rattle.number.specs.Digits.{isDigit}
-use Rattle.format_grammar.specs.Characters.{openingBracket, apostrophe, quotationMark}
+use Rattle.format_grammar.specs.Characters.{openingBracket, apostrophe, quotationMark, letterI, letterF, letterL, letterA}
 use Rattle.format_grammar.specs.Items.{Number, valueOf, Repeat, times, Items, join}
 use Rattle.format_grammar.specs.Ranges.{Ranged, ranged, outside, place, repeatNumbers, numbers}
 use Rattle.format_grammar.specs.Met.{Met}
@@ -65,10 +65,12 @@ pub record ItemRead (s : List ℕ) (a : ℕ) (m : Mode) (ns : List Ranged) (leas
 abbrev pub Stuck : List ℕ → ℕ → Mode → ℕ → Type 0
 Stuck s a m p = (l : ℕ) (xs : Items) (q : Open) → readAt s a (State.within m l xs q) ≡ Reading.wrong p
 
+-- an item, or none
 abbrev pub itemRead : List ℕ → ℕ → Mode → List Ranged → ℕ → ℕ → Single → Type 0
 itemRead s a m ns least o (single.Word w r next o') = ItemRead s a m ns least o w r next o'
 itemRead s a m ns least o (single.Wrong p) = Stuck s a m p
 
+-- an item that begins before `at` and ends with what a letter, whose use is u, asks for
 abbrev pub ended : List ℕ → ℕ → Use → Repeat → ℕ → Single → Type 0
 ended s at u k o x = itemRead s at (Mode.digits u at 0) (repeatNumbers k) at o x
 
@@ -82,10 +84,17 @@ pub record Ends (u : Use) (k : Repeat) (kind high : ℕ) : Type 0 where
   pub means : (t : List ℕ) (n : Number) → valueOf n < 1024 → metOf t (word kind (valueOf n) 0) ≡ met n
   pub numbers-are : (n : Number) → numbers (item n) ≡ repeatNumbers k ++ ranged n 1 high ∷ []
 
+-- a byte that begins neither a group nor a literal, and one that begins no field
 pub record NoBracketOrMark (b : ℕ) : Type 0 where
   pub no-bracket : b ≡ openingBracket → ⊥
   pub no-apostrophe : b ≡ apostrophe → ⊥
   pub no-quotation-mark : b ≡ quotationMark → ⊥
+
+pub record NoFieldLetter (b : ℕ) : Type 0 where
+  pub no-I : b ≡ letterI → ⊥
+  pub no-F : b ≡ letterF → ⊥
+  pub no-L : b ≡ letterL → ⊥
+  pub no-A : b ≡ letterA → ⊥
 
 -- ---- literals
 
@@ -99,6 +108,7 @@ pub record LiteralFound (s : List ℕ) (at m : ℕ) (t : List ℕ) (c : ℕ) (u 
   pub room : end < next
   pub high : next ≤ length s
 
+-- a literal, or none
 abbrev pub literalFound : List ℕ → ℕ → ℕ → List ℕ → ℕ → List ℕ → Literal → Type 0
 literalFound s at m t c u (literal.Text next end) = LiteralFound s at m t c u next end
 literalFound s at m t c u (literal.Wrong p) = Stuck s at (Mode.inside m []) p
@@ -128,6 +138,7 @@ pub record Took (s : List ℕ) (l : ℕ) (m : Mode) (to : ℕ → Items → Open
   pub more-entries : p .entries ≤ p' .entries
   pub more-chars : p .chars ≤ p' .chars
 
+-- items, or none
 abbrev pub took : List ℕ → ℕ → (ℕ → Items → Open → State) → Position → List ℕ → List ℕ → List ℕ → List ℕ → Answer → Type 0
 took s l to p a t b u (answer.Read p') = Took s l (wanted (p .at)) to p a t p' b u
 took s l to p a t b u (answer.Wrong x) = (xs : Items) (q : Open) → readAt s (p .at) (State.within (wanted (p .at)) l xs q) ≡ Reading.wrong x
@@ -147,6 +158,7 @@ pub record Opened (s : List ℕ) (l : ℕ) (p inside : Position) (r : ℕ) (a t 
   pub more : p .at < inside .at
   pub high : inside .at ≤ length s
 
+-- an item, the opening of a group, or neither
 abbrev pub headed : List ℕ → ℕ → Position → List ℕ → List ℕ → List ℕ → List ℕ → Head → Type 0
 headed s l p a t b u (head.Whole p') = Took s l (wanted (p .at)) (State.within Mode.after) p a t p' b u
 headed s l p a t b u (head.Group inside r) = Opened s l p inside r a t b u

@@ -1,16 +1,8 @@
 // Numbers of a format.
 use crate::Number;
-ghost use mathlib.Core.Path.{_≡_};
 ghost use Prim.Native.Nat.{_≤_};
 ghost use lib.ListN.{length};
 ghost use Rattle.format_read.specs.Steps.{NumberFound};
-
-// A byte as a u64.
-fn wide(b: u8) -> u64
-    ensures { λ r. ⌜ r ≡ b ⌝ }
-{
-    b as u64
-}
 
 // The digits from `at` on, three at most.
 pub fn read_number(text: &[u8], at: usize) -> Number
@@ -25,7 +17,7 @@ pub fn read_number(text: &[u8], at: usize) -> Number
         }
         let b = text[i];
         if number::digits::is_digit(b) {
-            value = value * 10 + wide(b - b'0');
+            value = value * 10 + number::digits::wide(b - b'0');
             i += 1;
         } else {
             return Number { value, next: i };

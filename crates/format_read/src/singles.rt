@@ -19,7 +19,7 @@ ghost use lib.ListN.{length, getD};
 ghost use Rattle.format_grammar.specs.Items.{Repeat, times};
 ghost use Rattle.format_grammar.specs.Ranges.{repeatNumbers};
 ghost use Rattle.format_grammar.specs.Reading.{Use, written, wanted};
-ghost use Rattle.format_read.specs.Steps.{NumberFound, Ends, ended, itemRead, NoBracketOrMark, outsideAfter};
+ghost use Rattle.format_read.specs.Steps.{NumberFound, Ends, ended, itemRead, NoBracketOrMark, NoFieldLetter, outsideAfter};
 
 // What I, L and T go on with: one number, from 1 to `high`.
 fn read_one(text: &[u8], at: usize, kind: u64, high: u64, repeat: u64, outside: usize) -> Single
@@ -41,7 +41,7 @@ fn read_one(text: &[u8], at: usize, kind: u64, high: u64, repeat: u64, outside: 
 }
 
 // What A goes on with: a width, or nothing.
-fn read_text(text: &[u8], at: usize, repeat: u64, outside: usize) -> Single
+fn read_a(text: &[u8], at: usize, repeat: u64, outside: usize) -> Single
     requires { ⌜ (at ≤ length (now text)) × (length (now text) ≤ 1024) × (repeat < 1000) ⌝ }
     ensures { λ r. ⌜ ((k : Repeat) → times k ≡ repeat → ended (now (text .entry)) at (Use.widthA k) k outside r) ⌝ }
 {
@@ -65,7 +65,7 @@ fn read_text(text: &[u8], at: usize, repeat: u64, outside: usize) -> Single
 }
 
 // What F goes on with: a width, a point and the places.
-fn read_decimal(text: &[u8], at: usize, repeat: u64, outside: usize) -> Single
+fn read_f(text: &[u8], at: usize, repeat: u64, outside: usize) -> Single
     requires { ⌜ (at ≤ length (now text)) × (length (now text) ≤ 1024) × (repeat < 1000) ⌝ }
     ensures { λ r. ⌜ ((k : Repeat) → times k ≡ repeat → ended (now (text .entry)) at (Use.widthF k) k outside r) ⌝ }
 {
@@ -116,27 +116,14 @@ pub fn outside_of(outside: usize, from: usize, at: usize, value: u64) -> usize
     first_outside(outside, from, value, 1, 255)
 }
 
-// The item, neither a group nor a literal, that begins with the digits from `from` up to `at`.
-pub fn read_single(text: &[u8], from: usize, at: usize, value: u64, outside: usize) -> Single
+// What begins with T, X or a slash, or with a byte that begins no item; the digits from `from` up to `at` stand before it.
+fn read_move(text: &[u8], from: usize, at: usize, value: u64, outside: usize) -> Single
     requires { ⌜ NumberFound (now text) from value at ⌝ }
-    requires { ⌜ (at < length (now text)) × (length (now text) ≤ 1024) × NoBracketOrMark (getD (now text) at 0) ⌝ }
+    requires { ⌜ (at < length (now text)) × (length (now text) ≤ 1024) × NoBracketOrMark (getD (now text) at 0) × NoFieldLetter (getD (now text) at 0) ⌝ }
     ensures { λ r. ⌜ itemRead (now (text .entry)) from (wanted from) [] (from + 1) outside r ⌝ }
 {
     let b = text[at];
-    let r = repeat_of(from, at, value);
     let o = outside_of(outside, from, at, value);
-    if b == b'I' {
-        return read_one(text, at + 1, KIND_I, 64, r, o);
-    }
-    if b == b'F' {
-        return read_decimal(text, at + 1, r, o);
-    }
-    if b == b'L' {
-        return read_one(text, at + 1, KIND_L, 64, r, o);
-    }
-    if b == b'A' {
-        return read_text(text, at + 1, r, o);
-    }
     if b == b'T' {
         if from < at {
             return Single::Wrong { place: at };
@@ -157,10 +144,34 @@ pub fn read_single(text: &[u8], from: usize, at: usize, value: u64, outside: usi
     if b == b'/' {
         return Single::Word {
             word: KIND_SLASH,
-            repeat: r,
+            repeat: repeat_of(from, at, value),
             next: at + 1,
             outside: o,
         };
     }
     Single::Wrong { place: at }
+}
+
+// The item, neither a group nor a literal, that begins with the digits from `from` up to `at`.
+pub fn read_single(text: &[u8], from: usize, at: usize, value: u64, outside: usize) -> Single
+    requires { ⌜ NumberFound (now text) from value at ⌝ }
+    requires { ⌜ (at < length (now text)) × (length (now text) ≤ 1024) × NoBracketOrMark (getD (now text) at 0) ⌝ }
+    ensures { λ r. ⌜ itemRead (now (text .entry)) from (wanted from) [] (from + 1) outside r ⌝ }
+{
+    let b = text[at];
+    let r = repeat_of(from, at, value);
+    let o = outside_of(outside, from, at, value);
+    if b == b'I' {
+        return read_one(text, at + 1, KIND_I, 64, r, o);
+    }
+    if b == b'F' {
+        return read_f(text, at + 1, r, o);
+    }
+    if b == b'L' {
+        return read_one(text, at + 1, KIND_L, 64, r, o);
+    }
+    if b == b'A' {
+        return read_a(text, at + 1, r, o);
+    }
+    read_move(text, from, at, value, outside)
 }

@@ -6,8 +6,7 @@ use Prim.Native.Nat.{ℕ, zero, suc, _+_, _-_, _*_, _≤_}
 use native.Mathlib.Omega.{arith}
 use lib.ListN.{replicate}
 use Rattle.format_grammar.specs.Items.{Repeat, times, Items}
-use Rattle.format_grammar.specs.Ranges.{numbers, repeatNumbers, fieldNumbers}
-use Rattle.format_grammar.specs.Promises.{AllWithin}
+use Rattle.format_grammar.specs.Ranges.{numbers, repeatNumbers, fieldNumbers, AllWithin}
 use Rattle.format_grammar.specs.Size.{size}
 use Rattle.format_grammar.specs.Met.{Met, repeat, met, hasGroup, fromLastGroup}
 use Rattle.format_grammar.proofs.RangeLaws.{within-left, within-right}

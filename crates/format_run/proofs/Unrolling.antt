@@ -7,8 +7,7 @@ use native.Mathlib.Nat.{mul-one}
 use native.Mathlib.Omega.{arith}
 use lib.ListN.{length, getD, set, replicate, length-append, length-set}
 use Rattle.format_grammar.specs.Items.{times, Items}
-use Rattle.format_grammar.specs.Ranges.{numbers}
-use Rattle.format_grammar.specs.Promises.{AllWithin}
+use Rattle.format_grammar.specs.Ranges.{numbers, AllWithin}
 use Rattle.format_grammar.specs.Size.{size}
 use Rattle.format_grammar.specs.Met.{Met, repeat, met, returnIndex}
 use Rattle.format_words.specs.Words.{kindOf, wordOf, repeatOf}

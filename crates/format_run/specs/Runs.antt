@@ -5,8 +5,7 @@ use mathlib.Core.List.{List, [], _∷_, _++_, map}
 use Prim.Native.Nat.{ℕ, _+_, _-_, _*_, _<_, _≤_}
 use lib.ListN.{length, take, drop}
 use Rattle.format_grammar.specs.Items.{Items}
-use Rattle.format_grammar.specs.Ranges.{numbers}
-use Rattle.format_grammar.specs.Promises.{AllWithin}
+use Rattle.format_grammar.specs.Ranges.{numbers, AllWithin}
 use Rattle.format_grammar.specs.Size.{size}
 use Rattle.format_grammar.specs.Met.{Met, repeat}
 use Rattle.format_words.specs.Words.{kindOf, kindGroup, metOf, reach}

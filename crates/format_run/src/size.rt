@@ -11,11 +11,16 @@ ghost use Rattle.format_grammar.specs.Size.{size};
 ghost use Rattle.format_words.specs.Held.{Holds, Held};
 ghost use Rattle.format_run.specs.Sizes.{capped};
 
-// A size as far as it matters: over 4,096 it counts as 4,097.
+// The largest size of a format, and what any larger one counts as.
+pub const LARGEST_SIZE: u64 = 4096;
+
+const TOO_LARGE: u64 = 4097;
+
+// A size as far as it matters.
 fn capped(n: u64) -> u64
     ensures { λ r. ⌜ r ≡ capped n ⌝ }
 {
-    if n < 4097 { n } else { 4097 }
+    if n < TOO_LARGE { n } else { TOO_LARGE }
 }
 
 // The size of the items that the entries from `from` up to `to` hold, by recursion over nested groups.

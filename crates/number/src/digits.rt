@@ -17,6 +17,13 @@ pub fn is_digit(b: u8) -> bool
     b <= b'9'
 }
 
+// A byte as a u64.
+pub fn wide(b: u8) -> u64
+    ensures { λ r. ⌜ r ≡ b ⌝ }
+{
+    b as u64
+}
+
 // How many digits m has, no leading zero.
 pub fn digit_count(m: u64) -> usize
     requires { ⌜ m ≤ largest ⌝ }

@@ -38,7 +38,7 @@ slice-aggregate-unroll-2 : tie.Need-slice-aggregate-unroll-2
 slice-aggregate-unroll-2 c = search needs
 
 unroll-requires : tie.Need-unroll-requires
-unroll-requires c κs = items-fit (rw (c .before .before .before .n .given .1) at (c .before .before .before .before .before .before .before .check-items .ensures)) _ (omega (arith, c .before .before .before .before .before .before .before .before .before .before .empty-run .ensures))
+unroll-requires c κs = let i = rw (c .before .before .before .n .given .1) at (c .before .before .before .before .before .before .before .check-items .ensures) in items-fit i _ (omega (arith, i .small, c .before .before .before .before .before .before .before .before .before .before .empty-run .ensures))
 
 slice-aggregate-lettered : tie.Need-slice-aggregate-lettered
 slice-aggregate-lettered c = search needs

@@ -1,8 +1,8 @@
 -- `format_check::check::check` meets its contract.
 -- Assumes nothing.
-use mathlib.Core.Path.{ap, _∙_}
+use mathlib.Core.Path.{ap}
 use Rattle.format_check.specs.Checked.{answer}
-use Rattle.format_check.proofs.CheckSteps.{answered, outcome-long, outcome-short}
+use Rattle.format_check.proofs.CheckSteps.{answered, outcome-long}
 use borrow.Author.Needs.{needs}
 use Rattle.format_check.proofs.check.check.Statement.{statement}
 use Rattle.format_check.proofs.check.check.Tie as tie
@@ -14,19 +14,19 @@ check-short-requires : tie.Need-check-short-requires
 check-short-requires c κs = search needs
 
 returns-2 : tie.Need-returns-2
-returns-2 c = answered _ _ (c .check-short .ensures ∙ ap answer (outcome-short _ (c .before .before .if1 .left)))
+returns-2 c = answered _ _ (c .check-short .ensures)
 
 check-middle-requires : tie.Need-check-middle-requires
 check-middle-requires c κs = search needs
 
 returns-3 : tie.Need-returns-3
-returns-3 c = answered _ _ (c .check-middle .ensures ∙ ap answer (outcome-short _ (c .before .before .before .if1 .left)))
+returns-3 c = answered _ _ (c .check-middle .ensures)
 
 check-long-requires : tie.Need-check-long-requires
 check-long-requires c κs = search needs
 
 returns-4 : tie.Need-returns-4
-returns-4 c = answered _ _ (c .check-long .ensures ∙ ap answer (outcome-short _ (c .before .before .before .if1 .left)))
+returns-4 c = answered _ _ (c .check-long .ensures)
 
 pub check-spec : {M : Type 1} → statement M
 check-spec =

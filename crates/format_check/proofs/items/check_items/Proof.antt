@@ -25,7 +25,7 @@ same-length-2 : tie.Need-same-length-2
 same-length-2 c = search needs
 
 returns : tie.Need-returns
-returns c = row-range (rw (c .before .before .before .before .end .given .1) at (c .before .before .before .before .before .before .before .before .before .before .read-format .ensures)) (c .before .if1 .taken)
+returns c = row-range _ (c .before .before .before .before .before .before .before .before .before .before .before .before .before .before .before .before .pre .0) (rw (c .before .before .before .before .end .given .1) at (c .before .before .before .before .before .before .before .before .before .before .read-format .ensures)) (c .before .if1 .taken)
 
 size-of-requires : tie.Need-size-of-requires
 size-of-requires c κs = held (rw (c .before .before .before .before .end .given .1) at (c .before .before .before .before .before .before .before .before .before .before .read-format .ensures))
@@ -37,7 +37,7 @@ same-length-4 : tie.Need-same-length-4
 same-length-4 c = search needs
 
 returns-2 : tie.Need-returns-2
-returns-2 c = let i = rw (c .before .before .before .before .before .before .end .given .1) at (c .before .before .before .before .before .before .before .before .before .before .before .before .read-format .ensures) in row-size i (c .before .before .before .if1 .left) _ (c .before .size-of .ensures .0 _ _ (i .read) (i .holds)) (c .if2 .taken)
+returns-2 c = let i = rw (c .before .before .before .before .before .before .end .given .1) at (c .before .before .before .before .before .before .before .before .before .before .before .before .read-format .ensures) in row-size _ (c .before .before .before .before .before .before .before .before .before .before .before .before .before .before .before .before .before .before .pre .0) i (c .before .before .before .if1 .left) _ (c .before .size-of .ensures .0 _ _ (i .read) (i .holds)) (c .if2 .taken)
 
 same-length-5 : tie.Need-same-length-5
 same-length-5 c = search needs
@@ -46,7 +46,7 @@ same-length-6 : tie.Need-same-length-6
 same-length-6 c = search needs
 
 returns-3 : tie.Need-returns-3
-returns-3 c = row-grammar _ _ (rw (c .before .place .given .1) at (c .before .before .before .before .before .before .before .read-format .ensures))
+returns-3 c = row-grammar _ (c .before .before .before .before .before .before .before .before .before .before .before .before .before .pre .0) (rw (c .before .place .given .1) at (c .before .before .before .before .before .before .before .read-format .ensures))
 
 same-length-7 : tie.Need-same-length-7
 same-length-7 c = search needs
@@ -56,7 +56,7 @@ same-length-8 c = search needs
 
 returns-4 : tie.Need-returns-4
 returns-4 c = let i = rw (c .before .before .before .before .before .before .end .given .1) at (c .before .before .before .before .before .before .before .before .before .before .before .before .read-format .ensures) in
-    row-none i (c .before .before .before .if1 .left) _ (c .before .size-of .ensures .0 _ _ (i .read) (i .holds)) (c .if2 .left) (omega (arith, c .before .before .before .before .before .before .before .before .before .before .before .before .before .before .before .before .before .before .pre .2, c .before .before .before .before .before .before .before .before .before .before .before .before .read-format .kept .1 .1 .0))
+    row-none _ (c .before .before .before .before .before .before .before .before .before .before .before .before .before .before .before .before .before .before .pre .0) i (c .before .before .before .if1 .left) _ (c .before .size-of .ensures .0 _ _ (i .read) (i .holds)) (c .if2 .left) (omega (arith, c .before .before .before .before .before .before .before .before .before .before .before .before .before .before .before .before .before .before .pre .2, c .before .before .before .before .before .before .before .before .before .before .before .before .read-format .kept .1 .1 .0))
 
 pub check-items-spec : {M : Type 1} → statement M
 check-items-spec =

@@ -5,7 +5,8 @@ use borrow.Author.Needs.{needs}
 use mathlib.Core.Path.{sym, _∙_}
 use Prim.Native.Nat.{_-_}
 use lib.ListN.{length, getD}
-use Rattle.format_read.proofs.DigitSteps.{DigitsSoFar, digits-none, digits-more, digits-three, digits-stop, digits-end, digit-bounds}
+use Rattle.number.proofs.DigitLaws.{digit-bounds}
+use Rattle.format_read.proofs.DigitSteps.{DigitsSoFar, digits-none, digits-more, digits-three, digits-stop, digits-end}
 use Rattle.format_read.proofs.digits.read_number.Statement.{statement}
 use Rattle.format_read.proofs.digits.read_number.Tie as tie
 

@@ -1,11 +1,11 @@
--- `format_read::singles::read_decimal` meets its contract.
+-- `format_read::singles::read_f` meets its contract.
 -- Assumes nothing.
 use native.Mathlib.Omega.{arith}
 use Rattle.format_grammar.specs.Reading.{Use}
 use Rattle.format_read.proofs.SingleSteps.{number-last, decimal-missing, decimal-no-point, decimal-no-places, decimal-read}
 use borrow.Author.Needs.{needs}
-use Rattle.format_read.proofs.singles.read_decimal.Statement.{statement}
-use Rattle.format_read.proofs.singles.read_decimal.Tie as tie
+use Rattle.format_read.proofs.singles.read_f.Statement.{statement}
+use Rattle.format_read.proofs.singles.read_f.Tie as tie
 
 read-number-requires : tie.Need-read-number-requires
 read-number-requires c κs = search needs
@@ -52,8 +52,8 @@ first-outside-requires-2 c κs = search needs
 returns-5 : tie.Need-returns-5
 returns-5 c = λ k rep. decimal-read (c .before .before .before .before .before .before .before .before .read-number .ensures) k (c .before .before .before .before .before .before .before .if1 .left) (omega (arith, c .before .before .before .before .before .before .if2 .left)) (c .before .before .before .before .if3 .left) (c .before .before .read-number2 .ensures) (c .before .if4 .left) _ rep (c .before .before .before .before .before .before .before .before .before .before .pre .2) _ _ _ (c .before .before .before .first-outside .ensures) (c .first-outside2 .ensures)
 
-pub read-decimal-spec : {M : Type 1} → statement M
-read-decimal-spec =
+pub read-f-spec : {M : Type 1} → statement M
+read-f-spec =
     tie.close
     (tie.spec
     read-number-requires
