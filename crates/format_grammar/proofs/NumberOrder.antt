@@ -1,60 +1,74 @@
--- The numbers of items stand in the text in the order of their list.
+-- The numbers of a format's items are those of its text, in order.
 -- Assumes nothing.
-use mathlib.Core.List.{List, [], _∷_, _++_}
-use Prim.Native.Nat.{ℕ, _≤_}
-use native.Mathlib.Omega.{arith}
+use mathlib.Core.Path.{_≡_, refl, sym, subst}
+use mathlib.Core.Bool.{false}
+use mathlib.Core.List.{List, [], _∷_, _++_, append-nil}
+use Prim.Native.Nat.{ℕ, _+_}
+use Rattle.number.specs.Digits.{isDigit}
 use Rattle.format_grammar.specs.Items.{Number, Repeat, Field, Items}
-use Rattle.format_grammar.specs.Grammar.{NumberAt, RepeatAt, FieldAt, Nonterminal, Derives}
+use Rattle.format_grammar.specs.Grammar.{At, NumberAt, RepeatAt, FieldAt, Nonterminal, Derives}
 use Rattle.format_grammar.specs.Ranges.{Ranged, ranged, repeatNumbers, fieldNumbers, numbers}
+use Rattle.format_grammar.specs.Promises.{NoNumber, InOrder, NumbersInOrder}
 use Rattle.format_grammar.proofs.ItemLaws.{numbers-join}
-use Rattle.format_grammar.specs.Promises.{InOrder, NumbersInOrder}
 
--- ---- numbers in order
+-- ---- one after the other
 
-no-more : {s : List ℕ} {a b : ℕ} → a ≤ b → InOrder s a [] b
-no-more h = InOrder.none h
+no-more : {s : List ℕ} {a b c : ℕ} → NoNumber s a b → NoNumber s b c → NoNumber s a c
+no-more NoNumber.none h = h
+no-more (NoNumber.byte at d g) h = NoNumber.byte at d (no-more g h)
+no-more (NoNumber.literal l g) h = NoNumber.literal l (no-more g h)
 
--- from an earlier offset
-earlier : {s : List ℕ} {a c b : ℕ} {ns : List Ranged} → a ≤ c → InOrder s c ns b → InOrder s a ns b
-earlier h (InOrder.none g) = no-more (omega arith)
-earlier {a} h (InOrder.next {c} g n k) = let f : a ≤ c = omega arith in InOrder.next f n k
+before : {s : List ℕ} {a b c : ℕ} {ns : List Ranged} → NoNumber s a b → InOrder s b ns c → InOrder s a ns c
+before g (InOrder.none h) = InOrder.none (no-more g h)
+before g (InOrder.next h n k) = InOrder.next (no-more g h) n k
 
--- up to a later offset
-later : {s : List ℕ} {a b c : ℕ} {ns : List Ranged} → InOrder s a ns b → b ≤ c → InOrder s a ns c
-later (InOrder.none g) h = no-more (omega arith)
-later (InOrder.next g n k) h = InOrder.next g n (later k h)
+after : {s : List ℕ} {a b c : ℕ} {ns : List Ranged} → InOrder s a ns b → NoNumber s b c → InOrder s a ns c
+after (InOrder.none g) h = InOrder.none (no-more g h)
+after (InOrder.next g n k) h = InOrder.next g n (after k h)
 
--- others after them
 append : {s : List ℕ} {a b c : ℕ} {ns ms : List Ranged} → InOrder s a ns b → InOrder s b ms c → InOrder s a (ns ++ ms) c
-append (InOrder.none g) h = earlier g h
+append (InOrder.none g) h = before g h
 append (InOrder.next g n k) h = InOrder.next g n (append k h)
 
-single : {s : List ℕ} {a c b : ℕ} {n : Number} {low high : ℕ} → a ≤ c → NumberAt s c n b → InOrder s a (ranged n low high ∷ []) b
-single {b} h n = let f : b ≤ b = omega arith in InOrder.next h n (InOrder.none f)
+-- ---- bytes and numbers
+
+nothing : {s : List ℕ} {a : ℕ} → InOrder s a [] a
+nothing = InOrder.none NoNumber.none
+
+sign : {s : List ℕ} {a c : ℕ} → At s a c → isDigit c ≡ false → NoNumber s a (a + 1)
+sign at d = NoNumber.byte at d NoNumber.none
+
+one : {s : List ℕ} {a b : ℕ} {n : Number} {low high : ℕ} → NumberAt s a n b → InOrder s a (ranged n low high ∷ []) b
+one n = InOrder.next NoNumber.none n nothing
 
 -- ---- the numbers of what is derived
 
 of-repeat : {s : List ℕ} {a b : ℕ} {r : Repeat} → RepeatAt s a r b → InOrder s a (repeatNumbers r) b
-of-repeat RepeatAt.absent = no-more (omega arith)
-of-repeat (RepeatAt.given n) = single (omega arith) n
+of-repeat RepeatAt.absent = nothing
+of-repeat (RepeatAt.given n) = one n
 
 of-field : {s : List ℕ} {a b : ℕ} {k : Field Number} → FieldAt s a k b → InOrder s a (fieldNumbers k) b
-of-field (FieldAt.I at w) = single (omega arith) w
-of-field (FieldAt.F at w p d) = append (single (omega arith) w) (single (omega arith) d)
-of-field (FieldAt.L at w) = single (omega arith) w
-of-field (FieldAt.A at) = no-more (omega arith)
-of-field (FieldAt.Aw at w) = single (omega arith) w
+of-field (FieldAt.I at w) = before (sign at refl) (one w)
+of-field (FieldAt.F at w p d) = before (sign at refl) (append (one w) (before (sign p refl) (one d)))
+of-field (FieldAt.L at w) = before (sign at refl) (one w)
+of-field (FieldAt.A at) = InOrder.none (sign at refl)
+of-field (FieldAt.Aw at w) = before (sign at refl) (one w)
 
-spelt : {s : List ℕ} {k : Nonterminal} {l a b : ℕ} {x : Items} → Derives s k l a x b → InOrder s a (numbers x) b
+-- the items that follow a last item have none
+alone : {s : List ℕ} {a b : ℕ} {ns : List Ranged} → InOrder s a ns b → InOrder s a (ns ++ []) b
+alone {s} {a} {b} {ns} k = subst (λ (l : List Ranged). InOrder s a l b) (sym (append-nil ns)) k
+
+of-derived : {s : List ℕ} {k : Nonterminal} {l a b : ℕ} {x : Items} → Derives s k l a x b → InOrder s a (numbers x) b
 unfolding numbers
-spelt (Derives.field rep k) = append (append (of-repeat rep) (of-field k)) (no-more (omega arith))
-spelt (Derives.group rep opens seq closes) = append (append (of-repeat rep) (earlier (omega arith) (spelt seq))) (no-more (omega arith))
-spelt (Derives.X n at) = later (single (omega arith) n) (omega arith)
-spelt (Derives.T at n) = single (omega arith) n
-spelt (Derives.slash rep at) = append (of-repeat rep) (no-more (omega arith))
-spelt (Derives.literal lit) = no-more (omega arith)
-spelt (Derives.one item) = spelt item
-spelt (Derives.more {xs = ys} {x = y} seq here item) = rw (numbers-join ys y) (append (spelt seq) (earlier (omega arith) (spelt item)))
+of-derived (Derives.field r f) = alone (append (of-repeat r) (of-field f))
+of-derived (Derives.group r o d c) = alone (append (of-repeat r) (before (sign o refl) (after (of-derived d) (sign c refl))))
+of-derived (Derives.X n x) = after (one n) (sign x refl)
+of-derived (Derives.T t n) = before (sign t refl) (one n)
+of-derived (Derives.slash r x) = alone (after (of-repeat r) (sign x refl))
+of-derived (Derives.literal f) = InOrder.none (NoNumber.literal f NoNumber.none)
+of-derived (Derives.one d) = of-derived d
+of-derived {s} (Derives.more {a} {c} {xs} {x} d at e) = subst (λ (l : List Ranged). InOrder s a l c) (sym (numbers-join xs x)) (append (of-derived d) (before (sign at refl) (of-derived e)))
 
 pub numbers-in-order : NumbersInOrder
-numbers-in-order s xs f = earlier (omega arith) (later (spelt (f .items)) (omega arith))
+numbers-in-order s xs f =
+    subst (λ (b : ℕ). InOrder s 0 (numbers xs) b) (sym (f .whole)) (before (sign (f .opens) refl) (after (of-derived (f .items)) (sign (f .closes) refl)))

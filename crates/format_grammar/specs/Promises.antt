@@ -4,10 +4,11 @@ use mathlib.Core.Path.{_≡_}
 use mathlib.Core.Logic.{_↔_}
 use mathlib.Core.Bool.{false}
 use mathlib.Core.List.{List, [], _∷_, _++_}
-use Prim.Native.Nat.{ℕ, _<_, _≤_}
+use Prim.Native.Nat.{ℕ, _+_, _<_, _≤_}
 use lib.ListN.{length, drop}
+use Rattle.number.specs.Digits.{isDigit}
 use Rattle.format_grammar.specs.Items.{Number, Repeat, Field, Items, join}
-use Rattle.format_grammar.specs.Grammar.{NumberAt, Printable, Format, LongestShared}
+use Rattle.format_grammar.specs.Grammar.{At, NumberAt, LiteralAt, Printable, Format, LongestShared}
 use Rattle.format_grammar.specs.Ranges.{Ranged, ranged, place, numbers, Within, AllWithin}
 use Rattle.format_grammar.specs.Size.{size, largestSize}
 use Rattle.format_grammar.specs.Met.{Met, met, hasGroup, returnPart, returnIndex}
@@ -25,13 +26,18 @@ pub record FirstOutsideAt (ns : List Ranged) (p : ℕ) : Type 0 where
   pub out : Within n → ⊥
   pub stands : place n ≡ p
 
--- the numbers stand in the text s one after another, between the offsets a and b
-pub data InOrder (s : List ℕ) : ℕ → List Ranged → ℕ → Type 0 where
-  none : {a b : ℕ} → a ≤ b → InOrder s a [] b
-  -- the digits of the next one stand from c up to d, and the others after them
-  next : {a c d b : ℕ} {n : Number} {low high : ℕ} {ns : List Ranged} → a ≤ c → NumberAt s c n d → InOrder s d ns b → InOrder s a (ranged n low high ∷ ns) b
+-- from a up to b stand bytes that are no digits, and literals
+pub data NoNumber (s : List ℕ) : ℕ → ℕ → Type 0 where
+  none : {a : ℕ} → NoNumber s a a
+  byte : {a c b : ℕ} → At s a c → isDigit c ≡ false → NoNumber s (a + 1) b → NoNumber s a b
+  literal : {a c b : ℕ} {cs : List ℕ} → LiteralAt s a cs c → NoNumber s (c + 1) b → NoNumber s a b
 
--- the numbers of a format's items stand so in its text, each as its value, in the order of `numbers`
+-- the numbers, and no others, stand from a up to b, in this order
+pub data InOrder (s : List ℕ) : ℕ → List Ranged → ℕ → Type 0 where
+  none : {a b : ℕ} → NoNumber s a b → InOrder s a [] b
+  next : {a c d b : ℕ} {n : Number} {low high : ℕ} {ns : List Ranged} → NoNumber s a c → NumberAt s c n d → InOrder s d ns b → InOrder s a (ranged n low high ∷ ns) b
+
+-- the numbers of a format's items are those of its text, in the order of `numbers`
 abbrev pub NumbersInOrder : Type 0
 NumbersInOrder = (s : List ℕ) (xs : Items) → Format s xs → InOrder s 0 (numbers xs) (length s)
 
