@@ -6,9 +6,9 @@ use Prim.Native.Nat.{ℕ, zero, suc, _+_, _*_, _<_, _≤_}
 use native.Mathlib.Nat.{mul-le-mul}
 use native.Mathlib.Omega.{arith}
 use lib.ListN.{length, replicate, length-append, length-replicate}
-use Rattle.format_grammar.specs.Items.{Number, Repeat, times, Field, Items}
+use Rattle.format_grammar.specs.Items.{Number, valueOf, Repeat, times, Field, Items}
 use Rattle.format_grammar.specs.Grammar.{Nonterminal, Derives}
-use Rattle.format_grammar.specs.Ranges.{repeatNumbers, fieldNumbers, numbers, AllWithin}
+use Rattle.format_grammar.specs.Ranges.{Ranged, rangeN, repeatNumbers, fieldNumbers, numbers, AllWithin}
 use Rattle.format_grammar.specs.Met.{Met, fieldValues, repeat, met}
 use Rattle.format_grammar.specs.Promises.{MetWithin, AllMetWithin, MetInRange}
 use Rattle.format_grammar.proofs.ItemLaws.{numbers-join}
@@ -39,14 +39,17 @@ field-within (Field.L w) h = (h .0 .0, h .0 .1)
 field-within Field.A h = tt
 field-within (Field.Aw w) h = (h .0 .0, h .0 .1)
 
+first-within : (n : Number) (ns : List Ranged) → AllWithin (rangeN n ∷ ns) → (1 ≤ valueOf n) × (valueOf n ≤ 255)
+first-within n ns h = (h .0 .0, h .0 .1)
+
 derived-within : {s : List ℕ} {k : Nonterminal} {l a b : ℕ} {x : Items} → Derives s k l a x b → AllWithin (numbers x) → AllMetWithin (met x)
 unfolding met numbers
 derived-within (Derives.field {r} {k} rep f) h =
     all-append (replicate (times r) (Met.field (fieldValues k))) [] (all-replicate (times r) (Met.field (fieldValues k)) (field-within k (within-right (repeatNumbers r) (fieldNumbers k) (within-left (repeatNumbers r ++ fieldNumbers k) [] h)))) tt
 derived-within (Derives.group {r} {xs} rep o d c) h =
     all-append (repeat (times r) (met xs)) [] (all-repeat (times r) (met xs) (derived-within d (within-right (repeatNumbers r) (numbers xs) (within-left (repeatNumbers r ++ numbers xs) [] h)))) tt
-derived-within (Derives.X n x) h = ((h .0 .0, h .0 .1), tt)
-derived-within (Derives.T t n) h = ((h .0 .0, h .0 .1), tt)
+derived-within (Derives.X {n} m x) h = (first-within n [] h, tt)
+derived-within (Derives.T {n} t m) h = (first-within n [] h, tt)
 derived-within (Derives.slash {r} rep x) h = all-append (replicate (times r) Met.slash) [] (all-replicate (times r) Met.slash tt) tt
 derived-within (Derives.literal f) h = ((f .some, f .printable), tt)
 derived-within (Derives.one d) h = derived-within d h
