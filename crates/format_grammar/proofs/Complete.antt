@@ -57,7 +57,7 @@ step-comma at l xs q = refl
 open-begun : (r : Repeat) (at l : ℕ) (xs : Items) (q : Open) → begun r at (l + 1) xs q openingBracket ≡ State.within (wanted (at + 1)) l Items.none (Open.group xs r q)
 open-begun r at l xs q = rw (ne-eqb (l + 1) 0 (λ z. omega arith), add-sub-cancel l 1)
 
--- what spells items leads from where an item may begin to where one has ended
+-- what is derived leads from where an item may begin to where one has ended
 read-derived : {s : List ℕ} {k : Nonterminal} {l a b : ℕ} {x : Items} → Derives s k l a x b → Follows s b → (xs : Items) (q : Open)
     → readAt s a (State.within (wanted a) l xs q) ≡ readAt s b (State.within Mode.after l (join xs x) q)
 read-derived (Derives.field {l} rep k) f xs q = read-field rep k f l xs q
