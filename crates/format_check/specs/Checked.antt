@@ -5,8 +5,9 @@ use mathlib.Core.List.{List}
 use Prim.Native.Nat.{ℕ, _≤_}
 use lib.ListN.{length}
 use Rattle.format_grammar.specs.Items.{Items}
+use Rattle.format_grammar.specs.Grammar.{levels}
 use Rattle.format_grammar.specs.Ranges.{numbers, AllWithin}
-use Rattle.format_grammar.specs.Size.{size}
+use Rattle.format_grammar.specs.Size.{size, largestSize}
 use Rattle.format_grammar.specs.Check.{Outcome, accepted, refused, outcome, refusalNumber, refusalPlace}
 use Rattle.format_words.specs.Held.{Holds}
 use Rattle.format_check.specs.declared.FormatCheck.{FormatCheck}
@@ -34,11 +35,11 @@ pub record ItemsHeld (s a t : List ℕ) (n k : ℕ) : Type 0 where
   pub items : Items
   pub accepts : outcome s ≡ accepted items
   pub c : ℕ
-  pub holds : Holds a t c 4 0 items n
+  pub holds : Holds a t c levels 0 items n
   pub within : c ≤ length t
   pub ranges : AllWithin (numbers items)
   pub sized : k ≡ size items
-  pub small : k ≤ 4096
+  pub small : k ≤ largestSize
 
 -- the items, or the refusal
 abbrev pub itemsChecked : List ℕ → List ℕ → List ℕ → ItemsChecked → Type 0

@@ -6,9 +6,9 @@ use Prim.Native.Nat.{ℕ, zero, suc, _+_, _*_, _<_, _≤_}
 use native.Mathlib.Nat.{mul-le-mul}
 use native.Mathlib.Omega.{arith}
 use lib.ListN.{length, replicate, length-append, length-replicate}
-use Rattle.format_grammar.specs.Items.{Number, valueOf, Repeat, times, Field, Items}
+use Rattle.format_grammar.specs.Items.{Number, Repeat, times, Field, Items}
 use Rattle.format_grammar.specs.Grammar.{Nonterminal, Derives}
-use Rattle.format_grammar.specs.Ranges.{Ranged, rangeN, repeatNumbers, fieldNumbers, numbers, AllWithin}
+use Rattle.format_grammar.specs.Ranges.{Ranged, rangeN, repeatNumbers, fieldNumbers, numbers, AllWithin, Within}
 use Rattle.format_grammar.specs.Met.{Met, fieldValues, repeat, met}
 use Rattle.format_grammar.specs.Promises.{MetWithin, AllMetWithin, MetInRange}
 use Rattle.format_grammar.proofs.ItemLaws.{numbers-join}
@@ -33,14 +33,14 @@ all-repeat (suc n) ks h = all-append ks (repeat n ks) h (all-repeat n ks h)
 -- ---- each item
 
 field-within : (k : Field Number) → AllWithin (fieldNumbers k) → MetWithin (Met.field (fieldValues k))
-field-within (Field.I w) h = (h .0 .0, h .0 .1)
-field-within (Field.F w d) h = (h .0 .0, h .0 .1, h .1 .0 .1)
-field-within (Field.L w) h = (h .0 .0, h .0 .1)
+field-within (Field.I w) h = h .0
+field-within (Field.F w d) h = (h .0, h .1 .0)
+field-within (Field.L w) h = h .0
 field-within Field.A h = tt
-field-within (Field.Aw w) h = (h .0 .0, h .0 .1)
+field-within (Field.Aw w) h = h .0
 
-first-within : (n : Number) (ns : List Ranged) → AllWithin (rangeN n ∷ ns) → (1 ≤ valueOf n) × (valueOf n ≤ 255)
-first-within n ns h = (h .0 .0, h .0 .1)
+first-within : (n : Number) (ns : List Ranged) → AllWithin (rangeN n ∷ ns) → Within (rangeN n)
+first-within n ns h = h .0
 
 derived-within : {s : List ℕ} {k : Nonterminal} {l a b : ℕ} {x : Items} → Derives s k l a x b → AllWithin (numbers x) → AllMetWithin (met x)
 unfolding met numbers

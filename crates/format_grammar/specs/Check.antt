@@ -17,6 +17,7 @@ use Rattle.format_grammar.specs.declared.FormatRefusal.the-variants.{Len
 abbrev pub longestFormat : ℕ
 longestFormat = 1024
 
+-- accepted as items, or refused
 pub data Outcome : Type 0 where
   accepted : Items → Outcome
   refused : FormatRefusal → Outcome

@@ -77,11 +77,15 @@ pub record LiteralAt (s : List ℕ) (a : ℕ) (cs : List ℕ) (c : ℕ) : Type 0
   pub printable : Printable cs
   pub some : 0 < length cs
 
+-- 'a group of level 4 holds no group'
+abbrev pub levels : ℕ
+levels = 4
+
 -- what a rule derives: one item, or one or more. (One relation with this index stands for the two that the paper has.)
 pub data Nonterminal : Type 0 where
   item items : Nonterminal
 
--- the rules, where l levels of groups may open: 4 directly in the format, 4 - k in a group of level k, so none in one of
+-- the rules, where l levels of groups may open: all directly in the format, one fewer in each group, so none in a group of
 -- level 4
 pub data Derives (s : List ℕ) : Nonterminal → ℕ → ℕ → Items → ℕ → Type 0 where
   -- 'a field, optionally with a repeat r before it'
@@ -105,7 +109,7 @@ pub data Derives (s : List ℕ) : Nonterminal → ℕ → ℕ → Items → ℕ 
 pub record Format (s : List ℕ) (xs : Items) : Type 0 where
   pub end : ℕ
   pub opens : At s 0 openingBracket
-  pub items : Derives s Nonterminal.items 4 1 xs end
+  pub items : Derives s Nonterminal.items levels 1 xs end
   pub closes : At s end closingBracket
   pub whole : length s ≡ end + 1
 

@@ -7,9 +7,9 @@ use mathlib.Core.List.{List, [], _∷_, _++_}
 use Prim.Native.Nat.{ℕ, _+_, _<_, _≤_}
 use lib.ListN.{length, drop}
 use Rattle.number.specs.Digits.{isDigit}
-use Rattle.format_grammar.specs.Items.{Number, Repeat, Field, Items, join}
+use Rattle.format_grammar.specs.Items.{Number, number, Repeat, Field, Items, join}
 use Rattle.format_grammar.specs.Grammar.{At, NumberAt, LiteralAt, Printable, Format, LongestShared}
-use Rattle.format_grammar.specs.Ranges.{Ranged, ranged, place, numbers, Within, AllWithin}
+use Rattle.format_grammar.specs.Ranges.{Ranged, ranged, rangeN, rangeW, rangeD, place, numbers, Within, AllWithin}
 use Rattle.format_grammar.specs.Size.{size, largestSize}
 use Rattle.format_grammar.specs.Met.{Met, met, hasGroup, returnPart, returnIndex}
 use Rattle.format_grammar.specs.Check.{longestFormat, accepted, outcome, outcomeNumber, outcomePlace}
@@ -58,7 +58,7 @@ pub record Acceptable (s : List ℕ) (xs : Items) : Type 0 where
 -- row 2: 'format over 1,024 bytes', place 1,024
 pub record TooLong (s : List ℕ) (p : ℕ) : Type 0 where
   pub long : longestFormat < length s
-  pub place-is : p ≡ 1024
+  pub place-is : p ≡ longestFormat
 
 -- row 3: 'not of the grammar', and its place
 pub record NotGrammatical (s : List ℕ) (p : ℕ) : Type 0 where
@@ -120,15 +120,15 @@ AlwaysAnswered = (s : List ℕ) → Verdict s (outcomeNumber (outcome s)) (outco
 abbrev pub MetIsSize : Type 0
 MetIsSize = (xs : Items) → length (met xs) ≡ size xs
 
--- an item met has its numbers within their ranges, and a literal its characters
+-- an item met has its numbers within their ranges, and a literal its characters. (Here a number's offset does not matter.)
 abbrev pub MetWithin : Met → Type 0
-MetWithin (Met.field (Field.I w)) = (1 ≤ w) × (w ≤ 64)
-MetWithin (Met.field (Field.F w d)) = (1 ≤ w) × (w ≤ 64) × (d ≤ 9)
-MetWithin (Met.field (Field.L w)) = (1 ≤ w) × (w ≤ 64)
+MetWithin (Met.field (Field.I w)) = Within (rangeW (number 0 w))
+MetWithin (Met.field (Field.F w d)) = Within (rangeW (number 0 w)) × Within (rangeD (number 0 d))
+MetWithin (Met.field (Field.L w)) = Within (rangeW (number 0 w))
 MetWithin (Met.field Field.A) = Unit {0}
-MetWithin (Met.field (Field.Aw w)) = (1 ≤ w) × (w ≤ 64)
-MetWithin (Met.X n) = (1 ≤ n) × (n ≤ 255)
-MetWithin (Met.T n) = (1 ≤ n) × (n ≤ 255)
+MetWithin (Met.field (Field.Aw w)) = Within (rangeW (number 0 w))
+MetWithin (Met.X n) = Within (rangeN (number 0 n))
+MetWithin (Met.T n) = Within (rangeN (number 0 n))
 MetWithin Met.slash = Unit {0}
 MetWithin (Met.literal cs) = (0 < length cs) × Printable cs
 

@@ -59,9 +59,11 @@ AllWithin (n ∷ ns) = Within n × AllWithin ns
 abbrev pub outside : Ranged → Bool
 outside (ranged n low high) = ltb (valueOf n) low || ltb high (valueOf n)
 
+-- where it stands
 abbrev pub place : Ranged → ℕ
 place (ranged n low high) = offset n
 
+-- no number out of range, or one at an offset
 pub data FirstOutside : Type 0 where
   nowhere : FirstOutside
   at : ℕ → FirstOutside

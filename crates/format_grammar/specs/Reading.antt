@@ -1,5 +1,5 @@
 -- A format read a byte at a time: the items of a grammatical text, and of any other the place at which no byte can go on.
--- (The laws `AcceptsExactly` and `GrammarRefused` of `Promises`: this reads exactly what the grammar relates, and the place
+-- (The laws `AcceptsExactly` and `GrammarRefused` of `Promises`: this reads exactly what the grammar derives, and the place
 -- is that of the longest beginning that some grammatical text shares.)
 -- Assumes nothing.
 use mathlib.Core.Bool.{Bool, true, false, _&&_, _||_, cond}
@@ -10,6 +10,7 @@ use lib.ListN.{drop}
 use Rattle.buffer.specs.Characters.{decimalPoint, digitZero}
 use Rattle.number.specs.Digits.{isDigit}
 use Rattle.format_grammar.specs.Characters.{quotationMark, apostrophe, openingBracket, closingBracket, comma, slashSign, letterA, letterF, letterI, letterL, letterT, letterX}
+use Rattle.format_grammar.specs.Grammar.{levels}
 use Rattle.format_grammar.specs.Items.{Number, number, Repeat, absent, given, I, F, L, A, Aw, Items, join}
 
 -- what a number is read for, with what was read of its item before
@@ -140,6 +141,7 @@ used (widthA r) n at l xs q b = afterNumber (ended (widthA r) n) at l xs q b
 used (places r w) n at l xs q b = afterNumber (ended (places r w) n) at l xs q b
 used column n at l xs q b = afterNumber (ended column n) at l xs q b
 
+-- no characters
 abbrev pub isEmpty : List ℕ → Bool
 isEmpty [] = true
 isEmpty (x ∷ xs) = false
@@ -156,11 +158,12 @@ stepWithin after at l xs q b = separated at l xs q b
 
 -- one more byte
 unfoldable pub step : ℕ → State → ℕ → State
-step at begin b = pick (eqb b openingBracket) (within (wanted (at + 1)) 4 Items.none format) dead
+step at begin b = pick (eqb b openingBracket) (within (wanted (at + 1)) levels Items.none format) dead
 step at (within m l xs q) b = stepWithin m at l xs q b
 step at (end xs) b = dead
 step at dead b = dead
 
+-- the items of a text, or the offset of the byte that cannot go on
 pub data Reading : Type 0 where
   items : Items → Reading
   wrong : (place : ℕ) → Reading

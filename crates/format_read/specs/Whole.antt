@@ -5,6 +5,7 @@ use mathlib.Core.List.{List}
 use Prim.Native.Nat.{ℕ, _+_, _≤_}
 use lib.ListN.{length}
 use Rattle.format_grammar.specs.Items.{Items}
+use Rattle.format_grammar.specs.Grammar.{levels}
 use Rattle.format_grammar.specs.Ranges.{FirstOutside, nowhere, at, numbers, firstOutside}
 use Rattle.format_grammar.specs.Reading.{items, wrong, reading}
 use Rattle.format_words.specs.Held.{Holds}
@@ -21,11 +22,12 @@ kept (at p) = p + 1
 pub record ItemsRead (s a t : List ℕ) (p : Position) : Type 0 where
   pub read : Items
   pub is : reading s ≡ items read
-  pub holds : Holds a t (p .chars) 4 0 read (p .entries)
+  pub holds : Holds a t (p .chars) levels 0 read (p .entries)
   pub outside-is : p .outside ≡ kept (firstOutside (numbers read))
   pub few-entries : p .entries ≤ length s
   pub few-chars : p .chars ≤ length s
 
+-- the items, or the offset of the byte that cannot go on
 abbrev pub formatRead : List ℕ → List ℕ → List ℕ → Answer → Type 0
 formatRead s a t (Read p) = ItemsRead s a t p
 formatRead s a t (Wrong p) = reading s ≡ wrong p

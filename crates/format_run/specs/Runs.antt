@@ -37,6 +37,7 @@ pub record Fits (a : List ℕ) (level from to : ℕ) (run : List ℕ) (n : ℕ) 
 abbrev pub RunWord : ℕ → ℕ → Type 0
 RunWord c w = (kindOf w < kindGroup) × (reach w ≤ c)
 
+-- every word is such
 abbrev pub RunWords : ℕ → List ℕ → Type 0
 RunWords c [] = Unit {0}
 RunWords c (w ∷ ws) = RunWord c w × RunWords c ws
