@@ -1,6 +1,8 @@
 // The items met.
 use format_check::ItemsChecked;
 use format_check::items::check_items;
+use format_grammar::LEVELS;
+use format_grammar::LONGEST_FORMAT;
 use format_run::unroll::unroll;
 use format_words::FIRST_BASE;
 use format_words::KIND_A;
@@ -94,7 +96,7 @@ fn show_items(format: &[u8])
             io::write_all(STDOUT_FILENO, b"refused\n");
         }
         ItemsChecked::Items { entries: n, size } => {
-            let u = unroll(&entries, 0, n, 4, &mut run, 0);
+            let u = unroll(&entries, 0, n, LEVELS, &mut run, 0);
             lettered(b"size ", size as u64);
             lettered(b" return ", u.back as u64);
             io::write_all(STDOUT_FILENO, b":");
@@ -104,7 +106,7 @@ fn show_items(format: &[u8])
 }
 
 pub fn show_run(format: &[u8]) {
-    if 1024 < format.len() {
+    if LONGEST_FORMAT < format.len() {
         io::write_all(STDOUT_FILENO, b"refused\n");
         return;
     }

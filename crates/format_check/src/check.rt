@@ -3,14 +3,12 @@ use crate::FormatCheck;
 use crate::ItemsChecked;
 use crate::items::check_items;
 use format_grammar::FormatRefusal;
+use format_grammar::LONGEST_FORMAT;
 ghost use mathlib.Core.Path.{_≡_};
 ghost use Prim.Native.Nat.{_≤_};
 ghost use lib.ListN.{length};
 ghost use Rattle.format_grammar.specs.Check.{outcome, outcomeNumber, outcomePlace};
 ghost use Rattle.format_check.specs.Checked.{answer, answerNumber, answerPlace};
-
-// The longest format.
-pub const LONGEST_FORMAT: usize = 1024;
 
 // Rows 3 to 5, with room for the text's items.
 fn check_with(text: &[u8], entries: &mut [u64], chars: &mut [u8]) -> FormatCheck

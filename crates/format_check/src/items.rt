@@ -1,9 +1,10 @@
 // The items of a format, checked: rows 3 to 5.
 use crate::ItemsChecked;
 use format_grammar::FormatRefusal;
+use format_grammar::LARGEST_SIZE;
+use format_grammar::LEVELS;
 use format_read::Answer;
 use format_read::format::read_format;
-use format_run::size::LARGEST_SIZE;
 use format_run::size::size_of;
 ghost use Prim.Native.Nat.{_≤_};
 ghost use lib.ListN.{length};
@@ -24,7 +25,7 @@ pub fn check_items(text: &[u8], entries: &mut [u64], chars: &mut [u8]) -> ItemsC
                 });
             }
             let n = end.entries;
-            let size = size_of(entries, 0, n, 4);
+            let size = size_of(entries, 0, n, LEVELS);
             if LARGEST_SIZE < size {
                 return ItemsChecked::Refused(FormatRefusal::Size);
             }

@@ -1,5 +1,6 @@
 // Refusals as document 01 numbers and places them.
 use format_grammar::FormatRefusal;
+use format_grammar::LONGEST_FORMAT;
 ghost use mathlib.Core.Path.{_≡_};
 ghost use Rattle.format_grammar.specs.Check.{refusalNumber, refusalPlace};
 
@@ -20,7 +21,7 @@ pub fn place_of(refusal: FormatRefusal) -> usize
     ensures { λ r. ⌜ r ≡ refusalPlace refusal ⌝ }
 {
     match refusal {
-        FormatRefusal::Length => 1024,
+        FormatRefusal::Length => LONGEST_FORMAT,
         FormatRefusal::Grammar { place } => place,
         FormatRefusal::Range { place } => place,
         FormatRefusal::Size => 0,

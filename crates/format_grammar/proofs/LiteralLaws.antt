@@ -20,7 +20,7 @@ use Rattle.format_grammar.proofs.NumberLaws.{not-digit, written-absent,
 
 -- ---- the steps in a literal
 
-step-open : (m at l : ℕ) (xs : Items) (q : Open) → Mark m → step at (State.within (wanted at) l xs q) m ≡ State.within (Mode.inside m []) l xs q
+pub step-open : (m at l : ℕ) (xs : Items) (q : Open) → Mark m → step at (State.within (wanted at) l xs q) m ≡ State.within (Mode.inside m []) l xs q
 step-open m at l xs q h =
     let go : (c : ℕ) → isDigit c ≡ false → begun Repeat.absent at l xs q c ≡ State.within (Mode.inside c []) l xs q → step at (State.within (wanted at) l xs q) c ≡ State.within (Mode.inside c []) l xs q =
     λ c e f. step-used Use.start at 0 at l xs q c (not-digit at at c e) ∙ rw (written-absent at at 0 refl) f in

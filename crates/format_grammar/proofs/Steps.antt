@@ -1,7 +1,6 @@
 -- Each byte keeps what the state says of the text up to it.
 -- Assumes nothing.
 use mathlib.Core.Path.{_≡_, refl, sym, ap}
-use mathlib.Core.Logic.{inl, inr}
 use mathlib.Core.Bool.{Bool, true, false, _&&_, _||_}
 use mathlib.Core.List.{List, []}
 use Prim.Native.Nat.{ℕ, _+_, _-_, _*_, _<_, _≤_}
@@ -17,7 +16,7 @@ use Rattle.format_grammar.specs.Items.{number, Repeat, Items, join}
 use Rattle.format_grammar.specs.Grammar.{At, NumberAt, RepeatAt, FieldAt, Mark, doubled, Nonterminal, Derives}
 use Rattle.format_grammar.specs.Reading.{Use, Mode, Open, State, step, stepWithin, written, separated, onlyAbsent, skipped, opened, begun, pointed, used, close, isEmpty}
 use Rattle.format_grammar.proofs.PartLaws.{part-none, value-more, digits-more}
-use Rattle.format_grammar.proofs.Cases.{pick-cases, and-true}
+use Rattle.format_grammar.proofs.Cases.{pick-cases, and-true, is-mark}
 use Rattle.format_grammar.proofs.LiteralSteps.{plain-at, doubled-at, literal-at}
 use Rattle.format_grammar.proofs.Reached.{Before, Bracket, Begun, UsedAt, DigitsAt, InsideAt, Reached}
 
@@ -83,13 +82,6 @@ item-separated : {s : List ℕ} {l a at : ℕ} {xs x : Items} {q : Open} → at 
 item-separated h g i = reached-separated h (g .bracket) (one-more (g .before) i)
 
 -- ---- the byte after the number with which an item begins
-
-is-mark : (b : ℕ) → (eqb b apostrophe || eqb b quotationMark) ≡ true → Mark b
-is-mark b e = go (eqb b apostrophe) refl e
-  where
-    go : (t : Bool) → eqb b apostrophe ≡ t → (t || eqb b quotationMark) ≡ true → Mark b
-    go true f g = inl (eqb-true b apostrophe f)
-    go false f g = inr (eqb-true b quotationMark g)
 
 reached-opened : {s : List ℕ} {l a at : ℕ} {r : Repeat} {xs : Items} {q : Open} → Begun s l xs q a → RepeatAt s a r at → At s at openingBracket → Reached s (at + 1) (opened r at l xs q)
 reached-opened {s} {l} {a} {at} {r} {xs} {q} g rep here =

@@ -9,14 +9,14 @@ use lib.ListN.{length, getD, take, set, length-set}
 use lib.Seq.{getD-set-same, getD-set-other, take-set-le, take-take, getD-take}
 use Rattle.format_grammar.specs.Items.{times, Items, join}
 use Rattle.format_grammar.specs.Ranges.{repeatNumbers, numbers}
-use Rattle.format_grammar.specs.Reading.{Mode, Open, State, Reading, step, stepWithin, wanted, close, readAt}
+use Rattle.format_grammar.specs.Reading.{Mode, Open, State, step, stepWithin, wanted, close, readAt}
 use Rattle.format_grammar.proofs.ItemLaws.{join-assoc, join-right, numbers-join}
 use Rattle.format_grammar.proofs.ReadLaws.{read-step, read-dead, read-end, close-live}
 use Rattle.format_words.specs.Words.{word, entry}
 use Rattle.format_words.specs.Held.{GroupEntry, Holds}
 use Rattle.format_words.proofs.WordLaws.{kind-word, first-word, word-entry, repeat-entry}
 use Rattle.format_words.proofs.HeldLaws.{holds-join, holds-kept}
-use Rattle.format_read.specs.Steps.{outsideAfter, Room, Took, Opened}
+use Rattle.format_read.specs.Steps.{outsideAfter, Room, NoItem, Took, Opened}
 use Rattle.format_read.specs.declared.Position.{Position}
 use Rattle.format_read.proofs.SingleSteps.{outside-append, outside-none}
 
@@ -106,8 +106,8 @@ so-far-none {s} {l} {start} {a} {t} room =
     }
 
 module _ {s : List ℕ} {l : ℕ} {start p : Position} {a t b u : List ℕ} (f : SoFar s l start a t p b u) where
-  pub so-far-wrong : (x : ℕ) → ((xs : Items) (q : Open) → readAt s (p .at) (State.within (wanted (p .at)) l xs q) ≡ Reading.wrong x)
-      → (xs : Items) (q : Open) → readAt s (start .at) (State.within (wanted (start .at)) l xs q) ≡ Reading.wrong x
+  pub so-far-wrong : (x : ℕ) → NoItem s l (p .at) x
+      → NoItem s l (start .at) x
   so-far-wrong x g xs q = f .runs xs q ∙ g (join xs (f .items)) q
 
   module _ {p' : Position} {d v : List ℕ} (k : Took s l (wanted (p .at)) (State.within Mode.after) p b u p' d v) where
@@ -118,11 +118,11 @@ module _ {s : List ℕ} {l : ℕ} {start p : Position} {a t b u : List ℕ} (f :
     unfolding both
     read-both xs q = f .runs xs q ∙ k .runs (join xs (f .items)) q ∙ ap (λ (x : Items). readAt s (p' .at) (State.within Mode.after l x q)) (join-assoc xs (f .items) (k .items))
 
-    pub so-far-end : length s ≤ p' .at → (xs : Items) (q : Open) → readAt s (start .at) (State.within (wanted (start .at)) l xs q) ≡ Reading.wrong (p' .at)
+    pub so-far-end : length s ≤ p' .at → NoItem s l (start .at) (p' .at)
     so-far-end h xs q = read-both xs q ∙ read-end s (p' .at) _ h
 
     module _ (h : p' .at < length s) where
-      pub so-far-other : (getD s (p' .at) 0 ≡ 41 → ⊥) → (getD s (p' .at) 0 ≡ 44 → ⊥) → (xs : Items) (q : Open) → readAt s (start .at) (State.within (wanted (start .at)) l xs q) ≡ Reading.wrong (p' .at)
+      pub so-far-other : (getD s (p' .at) 0 ≡ 41 → ⊥) → (getD s (p' .at) 0 ≡ 44 → ⊥) → NoItem s l (start .at) (p' .at)
       unfolding step stepWithin
       so-far-other c e xs q = read-both xs q ∙ read-dead s (p' .at) (State.within Mode.after l (join xs both) q) h (simp (ne-eqb (getD s (p' .at) 0) 44 e, ne-eqb (getD s (p' .at) 0) 41 c))
 

@@ -1,11 +1,12 @@
 -- The beginning of an item: the digits, if any, and the byte after them.
 -- Assumes nothing.
 use mathlib.Core.Path.{_≡_, refl, sym}
+use mathlib.Core.Logic.{⊎-elim}
 use mathlib.Core.Bool.{Bool, true, false, _||_}
 use mathlib.Core.List.{List}
 use Prim.Native.Nat.{ℕ, _+_, _-_, _<_}
 use native.Mathlib.Omega.{arith}
-use borrow.Author.Tests.{eq-eqb, ne-eqb, eqb-true, eqb-false}
+use borrow.Author.Tests.{eq-eqb, ne-eqb, eqb-false}
 use lib.Dec.{eqb}
 use lib.ListN.{length, getD}
 use Rattle.format_grammar.specs.Items.{number, Repeat, times, Items}
@@ -13,6 +14,7 @@ use Rattle.format_grammar.specs.Ranges.{repeatNumbers}
 use Rattle.format_grammar.specs.Reading.{Use, Open, State, Reading, wanted, written, readAt}
 use Rattle.format_read.specs.Steps.{NumberFound, outsideAfter, Stuck, NoBracketOrMark, Opened}
 use Rattle.format_read.specs.declared.Position.{Position}
+use Rattle.format_grammar.proofs.Cases.{is-mark}
 use Rattle.format_grammar.proofs.NumberLaws.{written-given}
 use Rattle.format_read.proofs.SingleSteps.{number-stuck-at, number-on-at}
 use Rattle.format_read.proofs.BegunSteps.{begun-stuck}
@@ -45,20 +47,12 @@ module _ {s : List ℕ} {v at l : ℕ} (p : Position) (f : NumberFound s (p .at)
 
 -- ---- a mark
 
-pub other-mark : (a b : Bool) → (a || b) ≡ true → a ≡ false → b ≡ true
-other-mark true b e f = cc
-other-mark false b e f = e
-
 -- digits before a mark
 pub mark-after-digits : {s : List ℕ} {from v at : ℕ} → NumberFound s from v at → at < length s → from < at → (eqb (getD s at 0) 39 || eqb (getD s at 0) 34) ≡ true → Stuck s from (wanted from) at
-mark-after-digits {s} {from} {v} {at} f h z e = go (eqb (getD s at 0) 39) refl
-  where
-    given : written from at v ≡ Repeat.given (number from v)
-    given = written-given from at v (λ y. omega arith)
-
-    go : (x : Bool) → eqb (getD s at 0) 39 ≡ x → Stuck s from (wanted from) at
-    go true g = begun-stuck f h (Repeat.given (number from v)) given (λ l xs q. rw (eqb-true (getD s at 0) 39 g))
-    go false g = begun-stuck f h (Repeat.given (number from v)) given (λ l xs q. rw (eqb-true (getD s at 0) 34 (other-mark (eqb (getD s at 0) 39) (eqb (getD s at 0) 34) e g)))
+mark-after-digits {s} {from} {v} {at} f h z e =
+    let n = Repeat.given (number from v) in
+    let given : written from at v ≡ Repeat.given (number from v) = written-given from at v (λ y. omega arith) in
+    ⊎-elim (λ m. begun-stuck f h n given (λ l xs q. rw m)) (λ m. begun-stuck f h n given (λ l xs q. rw m)) (is-mark (getD s at 0) e)
 
 -- neither a bracket nor a mark
 or-false : (a b : Bool) → (a || b) ≡ false → (a ≡ false) × (b ≡ false)

@@ -1,27 +1,26 @@
 -- Items read, with their entries and characters: one item, and one after another.
 -- Assumes nothing.
 use mathlib.Core.Path.{_≡_, refl, sym, ap, _∙_, subst}
-use mathlib.Core.Bool.{Bool, true, false, _||_}
+use mathlib.Core.Bool.{true, _||_}
 use mathlib.Core.List.{List, [], _++_}
 use Prim.Native.Nat.{ℕ, _+_, _-_, _<_, _≤_}
 use native.Mathlib.Omega.{arith}
-use borrow.Author.Tests.{eq-eqb, eqb-true}
 use lib.Dec.{eqb}
 use lib.ListN.{length, getD, take, drop, set, length-set}
 use lib.Seq.{getD-set-same, take-set-le, take-take, take-append-le, drop-at, length-take-le}
 use Rattle.format_grammar.specs.Items.{Items}
 use Rattle.format_grammar.specs.Ranges.{numbers}
 use Rattle.format_grammar.specs.Met.{Met}
-use Rattle.format_grammar.specs.Reading.{Use, Mode, Open, State, Reading, step, stepWithin, wanted, readAt}
-use Rattle.format_grammar.proofs.NumberLaws.{not-digit}
-use Rattle.format_grammar.proofs.ReadLaws.{read-step, step-used}
+use Rattle.format_grammar.specs.Reading.{Mode, Open, State, Reading, wanted, readAt}
+use Rattle.format_grammar.proofs.Cases.{is-mark}
+use Rattle.format_grammar.proofs.LiteralLaws.{step-open}
+use Rattle.format_grammar.proofs.ReadLaws.{read-step}
 use Rattle.format_words.specs.Words.{word, kindOf, metOf, reach, entry}
 use Rattle.format_words.specs.Held.{First, Single, Holds}
 use Rattle.format_words.proofs.WordLaws.{kind-word, word-entry, repeat-entry, met-literal, reach-literal, reach-other}
 use Rattle.format_words.proofs.HeldLaws.{drop-take}
 use Rattle.format_read.specs.Steps.{outsideAfter, ItemRead, LiteralFound, Room, Took, Stuck}
 use Rattle.format_read.specs.declared.Position.{Position}
-use Rattle.format_read.proofs.HeadSteps.{other-mark}
 
 -- ---- one entry
 
@@ -60,23 +59,9 @@ took-single {l} {p} {a} {w} {r} room i e t =
 
 -- ---- a literal
 
-begins-mark : (m at l : ℕ) (xs : Items) (q : Open) → (eqb m 39 || eqb m 34) ≡ true → step at (State.within (wanted at) l xs q) m ≡ State.within (Mode.inside m []) l xs q
-unfolding step stepWithin
-begins-mark m at l xs q e = go (eqb m 39) refl
-  where
-    at39 : m ≡ 39 → step at (State.within (wanted at) l xs q) m ≡ State.within (Mode.inside m []) l xs q
-    at39 z = rw z (step-used Use.start at 0 at l xs q 39 (not-digit at at 39 refl) ∙ rw (eq-eqb at at refl))
-
-    at34 : m ≡ 34 → step at (State.within (wanted at) l xs q) m ≡ State.within (Mode.inside m []) l xs q
-    at34 z = rw z (step-used Use.start at 0 at l xs q 34 (not-digit at at 34 refl) ∙ rw (eq-eqb at at refl))
-
-    go : (x : Bool) → eqb m 39 ≡ x → step at (State.within (wanted at) l xs q) m ≡ State.within (Mode.inside m []) l xs q
-    go true f = at39 (eqb-true m 39 f)
-    go false f = at34 (eqb-true m 34 (other-mark (eqb m 39) (eqb m 34) e f))
-
 literal-begun : (s : List ℕ) (at m : ℕ) → at < length s → getD s at 0 ≡ m → (eqb m 39 || eqb m 34) ≡ true → (l : ℕ) (xs : Items) (q : Open)
     → readAt s at (State.within (wanted at) l xs q) ≡ readAt s (at + 1) (State.within (Mode.inside m []) l xs q)
-literal-begun s at m h e k l xs q = read-step s at _ _ h (rw e (begins-mark m at l xs q k)) (λ a b. refl)
+literal-begun s at m h e k l xs q = read-step s at _ _ h (rw e (step-open m at l xs q (is-mark m k))) (λ a b. refl)
 
 -- the characters of a literal, among those that were there before
 text-at : (t u : List ℕ) (c end : ℕ) (cs : List ℕ) → c ≤ length t → end ≡ c + length cs → take end u ≡ take c t ++ cs → take (end - c) (drop c u) ≡ cs

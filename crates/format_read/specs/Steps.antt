@@ -61,7 +61,7 @@ pub record ItemRead (s : List ℕ) (a : ℕ) (m : Mode) (ns : List Ranged) (leas
   pub more : least ≤ next
   pub high : next ≤ length s
 
--- no item goes on from the mode m at a, because of the byte at p
+-- no item goes on from the mode m at a, whatever the levels, because of the byte at p
 abbrev pub Stuck : List ℕ → ℕ → Mode → ℕ → Type 0
 Stuck s a m p = (l : ℕ) (xs : Items) (q : Open) → readAt s a (State.within m l xs q) ≡ Reading.wrong p
 
@@ -138,10 +138,14 @@ pub record Took (s : List ℕ) (l : ℕ) (m : Mode) (to : ℕ → Items → Open
   pub more-entries : p .entries ≤ p' .entries
   pub more-chars : p .chars ≤ p' .chars
 
+-- where l levels may open, no item goes on from `at`, because of the byte at x
+abbrev pub NoItem : List ℕ → ℕ → ℕ → ℕ → Type 0
+NoItem s l at x = (xs : Items) (q : Open) → readAt s at (State.within (wanted at) l xs q) ≡ Reading.wrong x
+
 -- items, or none
 abbrev pub took : List ℕ → ℕ → (ℕ → Items → Open → State) → Position → List ℕ → List ℕ → List ℕ → List ℕ → Answer → Type 0
 took s l to p a t b u (answer.Read p') = Took s l (wanted (p .at)) to p a t p' b u
-took s l to p a t b u (answer.Wrong x) = (xs : Items) (q : Open) → readAt s (p .at) (State.within (wanted (p .at)) l xs q) ≡ Reading.wrong x
+took s l to p a t b u (answer.Wrong x) = NoItem s l (p .at) x
 
 -- a group opens, with the repeat k of r
 pub record Opened (s : List ℕ) (l : ℕ) (p inside : Position) (r : ℕ) (a t b u : List ℕ) : Type 0 where
@@ -162,4 +166,4 @@ pub record Opened (s : List ℕ) (l : ℕ) (p inside : Position) (r : ℕ) (a t 
 abbrev pub headed : List ℕ → ℕ → Position → List ℕ → List ℕ → List ℕ → List ℕ → Head → Type 0
 headed s l p a t b u (head.Whole p') = Took s l (wanted (p .at)) (State.within Mode.after) p a t p' b u
 headed s l p a t b u (head.Group inside r) = Opened s l p inside r a t b u
-headed s l p a t b u (head.Wrong x) = (xs : Items) (q : Open) → readAt s (p .at) (State.within (wanted (p .at)) l xs q) ≡ Reading.wrong x
+headed s l p a t b u (head.Wrong x) = NoItem s l (p .at) x

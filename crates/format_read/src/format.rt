@@ -2,6 +2,7 @@
 use crate::Answer;
 use crate::Position;
 use crate::items::read_items;
+use format_grammar::LEVELS;
 ghost use Prim.Native.Nat.{_≤_};
 ghost use lib.ListN.{length};
 ghost use Rattle.format_read.specs.Whole.{formatRead};
@@ -23,7 +24,7 @@ pub fn read_format(text: &[u8], entries: &mut [u64], chars: &mut [u8]) -> Answer
         chars: 0,
         outside: 0,
     };
-    match read_items(text, first, 4, entries, chars) {
+    match read_items(text, first, LEVELS, entries, chars) {
         Answer::Wrong { place } => Answer::Wrong { place },
         Answer::Read(after) => {
             let next = after.at;

@@ -2,6 +2,9 @@
 use crate::Single;
 use crate::digits::read_number;
 use crate::range::first_outside;
+use format_grammar::LARGEST_COUNT;
+use format_grammar::LARGEST_PLACES;
+use format_grammar::LARGEST_WIDTH;
 use format_words::FIRST_BASE;
 use format_words::KIND_A;
 use format_words::KIND_AW;
@@ -60,7 +63,7 @@ fn read_a(text: &[u8], at: usize, repeat: u64, outside: usize) -> Single
         word: value * KIND_BASE + KIND_AW,
         repeat,
         next,
-        outside: first_outside(outside, at, value, 1, 64),
+        outside: first_outside(outside, at, value, 1, LARGEST_WIDTH),
     }
 }
 
@@ -82,7 +85,7 @@ fn read_f(text: &[u8], at: usize, repeat: u64, outside: usize) -> Single
         return Single::Wrong { place: point };
     }
     let start = point + 1;
-    let o = first_outside(outside, at, w, 1, 64);
+    let o = first_outside(outside, at, w, 1, LARGEST_WIDTH);
     let f = read_number(text, start);
     let d = f.value;
     let next = f.next;
@@ -93,7 +96,7 @@ fn read_f(text: &[u8], at: usize, repeat: u64, outside: usize) -> Single
         word: (d * FIRST_BASE + w) * KIND_BASE + KIND_F,
         repeat,
         next,
-        outside: first_outside(o, start, d, 0, 9),
+        outside: first_outside(o, start, d, 0, LARGEST_PLACES),
     }
 }
 
@@ -113,7 +116,7 @@ pub fn outside_of(outside: usize, from: usize, at: usize, value: u64) -> usize
     if at == from {
         return outside;
     }
-    first_outside(outside, from, value, 1, 255)
+    first_outside(outside, from, value, 1, LARGEST_COUNT)
 }
 
 // What begins with T, X or a slash, or with a byte that begins no item; the digits from `from` up to `at` stand before it.
@@ -128,7 +131,7 @@ fn read_move(text: &[u8], from: usize, at: usize, value: u64, outside: usize) ->
         if from < at {
             return Single::Wrong { place: at };
         }
-        return read_one(text, at + 1, KIND_T, 255, 1, o);
+        return read_one(text, at + 1, KIND_T, LARGEST_COUNT, 1, o);
     }
     if b == b'X' {
         if from == at {
@@ -162,13 +165,13 @@ pub fn read_single(text: &[u8], from: usize, at: usize, value: u64, outside: usi
     let r = repeat_of(from, at, value);
     let o = outside_of(outside, from, at, value);
     if b == b'I' {
-        return read_one(text, at + 1, KIND_I, 64, r, o);
+        return read_one(text, at + 1, KIND_I, LARGEST_WIDTH, r, o);
     }
     if b == b'F' {
         return read_f(text, at + 1, r, o);
     }
     if b == b'L' {
-        return read_one(text, at + 1, KIND_L, 64, r, o);
+        return read_one(text, at + 1, KIND_L, LARGEST_WIDTH, r, o);
     }
     if b == b'A' {
         return read_a(text, at + 1, r, o);

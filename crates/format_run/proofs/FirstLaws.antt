@@ -10,6 +10,7 @@ use Rattle.format_grammar.specs.Ranges.{numbers, repeatNumbers, fieldNumbers, A
 use Rattle.format_grammar.specs.Size.{size}
 use Rattle.format_grammar.specs.Met.{Met, repeat, met, hasGroup, fromLastGroup}
 use Rattle.format_grammar.proofs.RangeLaws.{within-left, within-right}
+use Rattle.format_grammar.proofs.MetRanges.{times-some}
 use Rattle.format_words.specs.Held.{First}
 
 -- ---- a first item that is no group
@@ -36,24 +37,15 @@ repeat-one (suc r) k = ap (λ l. k ∷ l) (repeat-one r k)
 
 -- ---- numbers in range
 
--- a repeat in range
-pub record Few (r : ℕ) : Type 0 where
-  pub some : 1 ≤ r
-  pub few : r ≤ 255
-
-pub few-times : (r : Repeat) → AllWithin (repeatNumbers r) → Few (times r)
-few-times Repeat.absent h = omega arith
-few-times (Repeat.given n) h = record { some = h .0 .0; few = h .0 .1 }
-
-pub few-first : {xs next : Items} {r : ℕ} {k : Met} → First xs r k next → AllWithin (numbers xs) → Few r
+pub some-first : {xs next : Items} {r : ℕ} {k : Met} → First xs r k next → AllWithin (numbers xs) → 1 ≤ r
 unfolding numbers
-few-first (First.field {r} {k} {xs}) h =
-    few-times r
+some-first (First.field {r} {k} {xs}) h =
+    times-some r
     (within-left (repeatNumbers r) (fieldNumbers k) (within-left (repeatNumbers r ++ fieldNumbers k) (numbers xs) h))
-few-first First.X h = omega arith
-few-first First.T h = omega arith
-few-first (First.slash {r} {xs}) h = few-times r (within-left (repeatNumbers r) (numbers xs) h)
-few-first First.literal h = omega arith
+some-first First.X h = omega arith
+some-first First.T h = omega arith
+some-first (First.slash {r} {xs}) h = times-some r (within-left (repeatNumbers r) (numbers xs) h)
+some-first First.literal h = omega arith
 
 pub within-first : {xs next : Items} {r : ℕ} {k : Met} → First xs r k next → AllWithin (numbers xs) → AllWithin (numbers next)
 unfolding numbers
@@ -75,10 +67,10 @@ module _ (r : Repeat) (inside next : Items) where
   met-group = refl
 
   module _ (h : AllWithin (numbers (Items.group r inside next))) where
-    pub few-group : Few (times r)
+    pub some-group : 1 ≤ times r
     unfolding numbers
-    few-group =
-        few-times r
+    some-group =
+        times-some r
         (within-left (repeatNumbers r) (numbers inside) (within-left (repeatNumbers r ++ numbers inside) (numbers next) h))
 
     pub within-inside : AllWithin (numbers inside)

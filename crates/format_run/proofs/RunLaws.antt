@@ -47,24 +47,21 @@ words-repeat c zero ws h = tt
 words-repeat c (suc r) ws h = words-append c ws (repeat r ws) h (words-repeat c r ws h)
 
 module _ {t : List ℕ} {c : ℕ} {run : List ℕ} {n : ℕ} {ks : List Met} {out : List ℕ} {m : ℕ} (h : n ≤ length run) (w : Ran t c run n ks out m) where
-  front-long : length (take n run) ≡ n
-  front-long = length-take-le n run h
-
   -- the first words are as before
   pub ran-front : take n out ≡ take n run
   ran-front =
       sym (take-take n m out (omega (arith, w .count)))
       ∙ ap (λ l. take n l) (w .is)
-      ∙ take-at (take n run) (w .words) n front-long
+      ∙ take-at (take n run) (w .words) n (length-take-le n run h)
 
   -- the others are the run's
   pub ran-part : take (m - n) (drop n out) ≡ w .words
   ran-part =
       let e : n + (m - n) ≡ m = omega (arith, w .count) in
-      let l : length (take n out) ≡ n = ap length ran-front ∙ front-long in
+      let l : length (take n out) ≡ n = ap length ran-front ∙ length-take-le n run h in
       sym (drop-at (take n out) (take (m - n) (drop n out)) n l)
       ∙ ap (λ l. drop n l) (sym (take-add n (m - n) out) ∙ ap (λ k. take k out) e ∙ w .is)
-      ∙ drop-at (take n run) (w .words) n front-long
+      ∙ drop-at (take n run) (w .words) n (length-take-le n run h)
 
   pub ran-means : map (metOf t) (take (m - n) (drop n out)) ≡ ks
   ran-means = rw ran-part (w .mean)

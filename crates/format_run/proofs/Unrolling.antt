@@ -14,7 +14,7 @@ use Rattle.format_words.specs.Words.{kindOf, wordOf, repeatOf}
 use Rattle.format_words.specs.Held.{Holds}
 use Rattle.format_run.specs.Runs.{Repeatable, Repeated, Fits, Ran}
 use Rattle.format_grammar.proofs.MetLaws.{met-is-size, length-repeat}
-use Rattle.format_run.proofs.FirstLaws.{repeat-one, few-first, within-first, size-group, met-group, few-group, within-inside, within-next, first-adds}
+use Rattle.format_run.proofs.FirstLaws.{repeat-one, some-first, within-first, size-group, met-group, some-group, within-inside, within-next, first-adds}
 use Rattle.format_run.proofs.Views.{endOf, Group, as-group, Other, as-other, none-left}
 use Rattle.format_run.proofs.Repeating.{once-at-most}
 use Rattle.format_run.proofs.RunLaws.{ran-none, ran-one, ran-more, ran-repeat}
@@ -32,41 +32,41 @@ module _ {a : List ℕ} {l i to : ℕ} {run : List ℕ} {e : ℕ} (f : Fits a l 
 
     pub fits-inside : Fits a (l - 1) (i + 1) (endOf a i) run e
     fits-inside =
-        let s = few-group (g .r) (g .inside) (g .next) in-range in
+        let s = some-group (g .r) (g .inside) (g .next) in-range in
         record {
           t = f .t;
           c = f .c;
           items = g .inside;
           holds = g .one;
           ranges = within-inside (g .r) (g .inside) (g .next) in-range;
-          room = omega (arith, f .room, first-size, once-at-most (times (g .r)) (size (g .inside)) (s .some));
+          room = omega (arith, f .room, first-size, once-at-most (times (g .r)) (size (g .inside)) s);
         }
 
     pub fits-again : {out : List ℕ} {m : ℕ}
         → length out ≡ length run → Ran (f .t) (f .c) run e (met (g .inside)) out m → Repeatable out e m (repeatOf (getD a i 0))
     fits-again {out} {m} k w =
-        let s = few-group (g .r) (g .inside) (g .next) in-range in
+        let s = some-group (g .r) (g .inside) (g .next) in-range in
         let d : m - e ≡ size (g .inside) = omega (arith, w .count, met-is-size (g .inside)) in
         record {
           ordered = omega (arith, w .count);
-          inside = omega (arith, f .room, first-size, once-at-most (times (g .r)) (size (g .inside)) (s .some), d, w .count);
-          some = omega (arith, s .some, g .repeats);
+          inside = omega (arith, f .room, first-size, once-at-most (times (g .r)) (size (g .inside)) s, d, w .count);
+          some = omega (arith, s, g .repeats);
           few = omega arith;
           room = rw (d, g .repeats) (omega (arith, f .room, first-size));
         }
 
   module _ (o : Other a (f .t) (f .c) l i (f .items) to) where
     pub fits-word : e < length run
-    fits-word = omega (arith, f .room, first-adds (o .first) .size-is, few-first (o .first) (f .ranges))
+    fits-word = omega (arith, f .room, first-adds (o .first) .size-is, some-first (o .first) (f .ranges))
 
     pub fits-word-again : (w : ℕ) → Repeatable (set run e w) e (e + 1) (repeatOf (getD a i 0))
     fits-word-again w =
-        let s = few-first (o .first) (f .ranges) in
+        let s = some-first (o .first) (f .ranges) in
         let d : e + 1 - e ≡ 1 = omega arith in
         record {
           ordered = omega arith;
           inside = omega (arith, length-set run e w, fits-word);
-          some = s .some;
+          some = s;
           few = omega arith;
           room = rw (d, mul-one) (omega (arith, length-set run e w, f .room, first-adds (o .first) .size-is));
         }

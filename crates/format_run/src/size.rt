@@ -11,9 +11,7 @@ ghost use Rattle.format_grammar.specs.Size.{size};
 ghost use Rattle.format_words.specs.Held.{Holds, Held};
 ghost use Rattle.format_run.specs.Sizes.{capped};
 
-// The largest size of a format, and what any larger one counts as.
-pub const LARGEST_SIZE: u64 = 4096;
-
+// What any size over the largest counts as.
 const TOO_LARGE: u64 = 4097;
 
 // A size as far as it matters.
