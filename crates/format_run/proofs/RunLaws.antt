@@ -63,9 +63,6 @@ module _ {t : List ℕ} {c : ℕ} {run : List ℕ} {n : ℕ} {ks : List Met} {ou
       ∙ ap (λ l. drop n l) (sym (take-add n (m - n) out) ∙ ap (λ k. take k out) e ∙ w .is)
       ∙ drop-at (take n run) (w .words) n (length-take-le n run h)
 
-  pub ran-means : map (metOf t) (take (m - n) (drop n out)) ≡ ks
-  ran-means = rw ran-part (w .mean)
-
   pub ran-repeat : {r : ℕ} {last : List ℕ} {e : ℕ} → Repeated out n m r last e → Ran t c run n (repeat r ks) last e
   ran-repeat {r} p =
       let d : m - n ≡ length ks = omega (arith, w .count) in
