@@ -18,16 +18,16 @@ use Rattle.format_check.specs.declared.ItemsChecked.the-variants as chec
 -- the answer that an outcome has
 abbrev pub answer : Outcome → FormatCheck
 answer (accepted xs) = check.Accepted
-answer (refused w) = check.Refused w
+answer (refused why) = check.Refused why
 
 -- document 01's number and place of each answer; 0 where the format is accepted
 abbrev pub answerNumber : FormatCheck → ℕ
 answerNumber check.Accepted = 0
-answerNumber (check.Refused w) = refusalNumber w
+answerNumber (check.Refused why) = refusalNumber why
 
 abbrev pub answerPlace : FormatCheck → ℕ
 answerPlace check.Accepted = 0
-answerPlace (check.Refused w) = refusalPlace w
+answerPlace (check.Refused why) = refusalPlace why
 
 -- an accepted format: the first n entries of a hold its items, the characters of their literals are among the first c of t,
 -- and their size is k
@@ -44,4 +44,4 @@ pub record ItemsHeld (s a t : List ℕ) (n k : ℕ) : Type 0 where
 -- the items, or the refusal
 abbrev pub itemsChecked : List ℕ → List ℕ → List ℕ → ItemsChecked → Type 0
 itemsChecked s a t (checked.Items n k) = ItemsHeld s a t n k
-itemsChecked s a t (checked.Refused w) = outcome s ≡ refused w
+itemsChecked s a t (checked.Refused why) = outcome s ≡ refused why

@@ -7,12 +7,12 @@ use format_grammar::LONGEST_FORMAT;
 ghost use mathlib.Core.Path.{_≡_};
 ghost use Prim.Native.Nat.{_≤_};
 ghost use lib.ListN.{length};
-ghost use Rattle.format_grammar.specs.Check.{outcome, outcomeNumber, outcomePlace};
+ghost use Rattle.format_grammar.specs.Check.{longestFormat, outcome, outcomeNumber, outcomePlace};
 ghost use Rattle.format_check.specs.Checked.{answer, answerNumber, answerPlace};
 
 // Rows 3 to 5, with room for the text's items.
 fn check_with(text: &[u8], entries: &mut [u64], chars: &mut [u8]) -> FormatCheck
-    requires { ⌜ (length (now text) ≤ 1024) × (length (now text) ≤ length (now entries)) × (length (now text) ≤ length (now chars)) ⌝ }
+    requires { ⌜ (length (now text) ≤ longestFormat) × (length (now text) ≤ length (now entries)) × (length (now text) ≤ length (now chars)) ⌝ }
     ensures { λ r. ⌜ r ≡ answer (outcome (now (text .entry))) ⌝ }
 {
     match check_items(text, entries, chars) {
@@ -46,7 +46,7 @@ fn check_middle(text: &[u8]) -> FormatCheck
 
 // A text of at most 1,024 bytes.
 fn check_long(text: &[u8]) -> FormatCheck
-    requires { ⌜ length (now text) ≤ 1024 ⌝ }
+    requires { ⌜ length (now text) ≤ longestFormat ⌝ }
     ensures { λ r. ⌜ r ≡ answer (outcome (now (text .entry))) ⌝ }
 {
     let mut entries = [0u64; 1024];

@@ -8,12 +8,13 @@ use format_read::format::read_format;
 use format_run::size::size_of;
 ghost use Prim.Native.Nat.{_≤_};
 ghost use lib.ListN.{length};
+ghost use Rattle.format_grammar.specs.Check.{longestFormat};
 ghost use Rattle.format_check.specs.Checked.{itemsChecked};
 
 // The items of a text, as entries and characters; refused where the text is not of the grammar, a number is out of its
 // range, or the size is too large.
 pub fn check_items(text: &[u8], entries: &mut [u64], chars: &mut [u8]) -> ItemsChecked
-    requires { ⌜ (length (now text) ≤ 1024) × (length (now text) ≤ length (now entries)) × (length (now text) ≤ length (now chars)) ⌝ }
+    requires { ⌜ (length (now text) ≤ longestFormat) × (length (now text) ≤ length (now entries)) × (length (now text) ≤ length (now chars)) ⌝ }
     ensures { λ r. ⌜ itemsChecked (now (text .entry)) (now (entries .exit)) (now (chars .exit)) r ⌝ }
 {
     match read_format(text, entries, chars) {

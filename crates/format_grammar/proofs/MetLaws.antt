@@ -11,7 +11,7 @@ use lib.Seq.{drop-at}
 use Rattle.format_grammar.specs.Items.{valueOf, Repeat, times, Items, join}
 use Rattle.format_grammar.specs.Size.{size}
 use Rattle.format_grammar.specs.Met.{Met, repeat, met, fieldValues, hasGroup, fromLastGroup, returnPart, returnIndex}
-use Rattle.format_grammar.specs.Promises.{ReturnsTo, MetIsSize, ReturnPartIs, ReturnIndexIs}
+use Rattle.format_grammar.specs.Promises.{NoGroup, ReturnsTo, MetIsSize, ReturnPartIs, ReturnIndexIs}
 
 pub length-repeat : {A : Type 0} (n : ℕ) (xs : List A) → length (repeat n xs) ≡ n * length xs
 unfolding repeat
@@ -77,13 +77,27 @@ last-group (Items.T n xs) e = further (Items.T n) xs (λ x y. refl) refl (last-g
 last-group (Items.slash r xs) e = further (Items.slash r) xs (λ x y. refl) refl (last-group xs e)
 last-group (Items.literal cs xs) e = further (Items.literal cs) xs (λ x y. refl) refl (last-group xs e)
 
+-- a group among the items is found
+group-found : (before : Items) (r : Repeat) (inside after : Items) → hasGroup (join before (Items.group r inside after)) ≡ true
+unfolding hasGroup join
+group-found Items.none r inside after = refl
+group-found (Items.field q k xs) r inside after = group-found xs r inside after
+group-found (Items.group q ys xs) r inside after = refl
+group-found (Items.X n xs) r inside after = group-found xs r inside after
+group-found (Items.T n xs) r inside after = group-found xs r inside after
+group-found (Items.slash q xs) r inside after = group-found xs r inside after
+group-found (Items.literal cs xs) r inside after = group-found xs r inside after
+
+no-group : (xs : Items) → hasGroup xs ≡ false → NoGroup xs
+no-group xs e before r inside after f = false≢true (sym e ∙ ap hasGroup f ∙ group-found before r inside after)
+
 pub return-part-is : ReturnPartIs
 unfolding returnPart
 return-part-is xs = go (hasGroup xs) refl
   where
     go : (t : Bool) → hasGroup xs ≡ t → ReturnsTo xs (returnPart xs)
-    go true e = let h = last-group xs e in rw (e, h .found) (ReturnsTo.last (h .before) (h .split) (h .no-more))
-    go false e = rw e (ReturnsTo.whole e)
+    go true e = let h = last-group xs e in rw (e, h .found) (ReturnsTo.last (h .before) (h .split) (no-group (h .after) (h .no-more)))
+    go false e = rw e (ReturnsTo.whole (no-group xs e))
 
 -- ---- where it begins among the items met
 

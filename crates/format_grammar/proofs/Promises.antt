@@ -16,7 +16,7 @@ use Rattle.format_grammar.specs.Reading.{Reading, items, wrong, reading}
 use Rattle.format_grammar.specs.Check.{longestFormat, Outcome, accepted, refused, checkSize, checkRange, checkGrammar, outcome, refusalNumber, refusalPlace, outcomeNumber, outcomePlace}
 use Rattle.format_grammar.specs.declared.FormatRefusal.{FormatRefusal}
 use Rattle.format_grammar.specs.declared.FormatRefusal.the-variants.{Length, Grammar, Range, Size}
-use Rattle.format_grammar.specs.Promises.{Answers, Acceptable, TooLong, NotGrammatical, OutOfRange, TooLarge, Verdict, AcceptsExactly, OneReading, LengthRefused, GrammarRefused, RangeRefused, SizeRefused, AlwaysAnswered, NumbersInOrder, MetIsSize, MetInRange, ReturnPartIs, ReturnIndexIs}
+use Rattle.format_grammar.specs.Promises.{Answers, Acceptable, TooLong, NotGrammatical, OutOfRange, TooLarge, AnsweredBy, AcceptsExactly, OneReading, LengthRefused, GrammarRefused, RangeRefused, SizeRefused, AlwaysAnswered, NumbersInOrder, MetIsSize, MetInRange, ReturnPartIs, ReturnIndexIs}
 use Rattle.format_grammar.proofs.Complete.{complete}
 use Rattle.format_grammar.proofs.Sound.{sound}
 use Rattle.format_grammar.proofs.Place.{place-is, one-place}
@@ -99,12 +99,12 @@ outcome-ranged s xs h f r = outcome-read s xs h f ∙ rw (all-nowhere (numbers x
 pub always-answered : AlwaysAnswered
 always-answered s = go (said s)
   where
-    go : {o : Outcome} → Said s o → Verdict s (outcomeNumber o) (outcomePlace o)
-    go (Said.too-long h) = Verdict.too-long h
-    go (Said.not-grammatical h) = Verdict.not-grammatical h
-    go (Said.out-of-range h) = Verdict.out-of-range h
-    go (Said.too-large h) = Verdict.too-large h
-    go (Said.acceptable h) = Verdict.acceptable h
+    go : {o : Outcome} → Said s o → AnsweredBy s (outcomeNumber o) (outcomePlace o)
+    go (Said.too-long h) = AnsweredBy.too-long h
+    go (Said.not-grammatical h) = AnsweredBy.not-grammatical h
+    go (Said.out-of-range h) = AnsweredBy.out-of-range h
+    go (Said.too-large h) = AnsweredBy.too-large h
+    go (Said.acceptable h) = AnsweredBy.acceptable h
 
 -- ---- the rows: a verdict by its number
 
@@ -114,8 +114,8 @@ accepts-exactly s xs = (λ e. go (rw e at (said s)), λ h. outcome-ranged s xs (
     go : {xs : Items} → Said s (accepted xs) → Acceptable s xs
     go (Said.acceptable h) = h
 
-answered : (s : List ℕ) (n p : ℕ) → Answers s n p → Verdict s n p
-answered s n p a = subst (λ (q : ℕ). Verdict s n q) (a .place-is) (subst (λ (m : ℕ). Verdict s m (outcomePlace (outcome s))) (a .number-is) (always-answered s))
+answered : (s : List ℕ) (n p : ℕ) → Answers s n p → AnsweredBy s n p
+answered s n p a = subst (λ (q : ℕ). AnsweredBy s n q) (a .place-is) (subst (λ (m : ℕ). AnsweredBy s m (outcomePlace (outcome s))) (a .number-is) (always-answered s))
 
 answers : (s : List ℕ) (w : FormatRefusal) → outcome s ≡ refused w → Answers s (refusalNumber w) (refusalPlace w)
 answers s w e = record { number-is = rw e; place-is = rw e }
@@ -124,14 +124,14 @@ pub length-refused : LengthRefused
 unfolding outcome
 length-refused s p = (λ a. go (answered s 2 p a), λ h. rw (h .place-is) (answers s Length (rw (lt-ltb longestFormat (length s) (h .long)))))
   where
-    go : Verdict s 2 p → TooLong s p
-    go (Verdict.too-long h) = h
+    go : AnsweredBy s 2 p → TooLong s p
+    go (AnsweredBy.too-long h) = h
 
 pub grammar-refused : GrammarRefused
 grammar-refused s p = (λ a. go (answered s 3 p a), λ h. answers s (Grammar p) (outcome-short s (h .short) ∙ back h (reading s) refl))
   where
-    go : Verdict s 3 p → NotGrammatical s p
-    go (Verdict.not-grammatical h) = h
+    go : AnsweredBy s 3 p → NotGrammatical s p
+    go (AnsweredBy.not-grammatical h) = h
 
     back : NotGrammatical s p → (o : Reading) → reading s ≡ o → checkGrammar (reading s) ≡ refused (Grammar p)
     back h (items xs) e = absurd (h .not-format xs (sound s xs e))
@@ -141,12 +141,12 @@ pub range-refused : RangeRefused
 range-refused s p =
     (λ a. go (answered s 4 p a), λ h. answers s (Range p) (outcome-read s (h .read) (h .short) (h .format) ∙ rw (first-at (numbers (h .read)) p (h .place-is))))
   where
-    go : Verdict s 4 p → OutOfRange s p
-    go (Verdict.out-of-range h) = h
+    go : AnsweredBy s 4 p → OutOfRange s p
+    go (AnsweredBy.out-of-range h) = h
 
 pub size-refused : SizeRefused
 size-refused s p =
     (λ a. go (answered s 5 p a), λ h. rw (h .place-is) (answers s Size (outcome-ranged s (h .read) (h .short) (h .format) (h .ranges) ∙ rw (lt-ltb largestSize (size (h .read)) (h .large)))))
   where
-    go : Verdict s 5 p → TooLarge s p
-    go (Verdict.too-large h) = h
+    go : AnsweredBy s 5 p → TooLarge s p
+    go (AnsweredBy.too-large h) = h

@@ -67,17 +67,17 @@ at-first (n ∷ ns) p e = go (outside n) refl (at-first ns p)
     go true f r =
         let k = first-here n ns f in
         let z : place n ≡ p = cc in
-        record { before = []; n = n; after = ns; split = refl; fine = tt; out = outside-not n f; stands = z }
+        record { before = []; n = n; after = ns; split = refl; before-within = tt; not-within = outside-not n f; stands = z }
     go false f r =
         let k = r (sym (first-later n ns f) ∙ e) in
-        record { before = n ∷ k .before; n = k .n; after = k .after; split = ap (n ∷_) (k .split); fine = (inside-within n f, k .fine); out = k .out; stands = k .stands }
+        record { before = n ∷ k .before; n = k .n; after = k .after; split = ap (n ∷_) (k .split); before-within = (inside-within n f, k .before-within); not-within = k .not-within; stands = k .stands }
 
 first-past : (before : List Ranged) (n : Ranged) (after : List Ranged) → AllWithin before → (Within n → ⊥) → firstOutside (before ++ n ∷ after) ≡ at (place n)
 first-past [] n after h out = first-here n after (not-outside n out)
 first-past (b ∷ before) n after h out = first-later b _ (within-inside b (h .0)) ∙ first-past before n after (h .1) out
 
 pub first-at : (ns : List Ranged) (p : ℕ) → FirstOutsideAt ns p → firstOutside ns ≡ at p
-first-at ns p h = rw (h .split) (first-past (h .before) (h .n) (h .after) (h .fine) (h .out) ∙ ap at (h .stands))
+first-at ns p h = rw (h .split) (first-past (h .before) (h .n) (h .after) (h .before-within) (h .not-within) ∙ ap at (h .stands))
 
 -- ---- parts of a list
 

@@ -1,5 +1,5 @@
 -- Document 01, 'Checks by place': rows 2 to 5. 'The format check takes the format alone and applies rows 2 to 5', 'in this
--- order': row 2 stands last here, since each row goes on with the one below it.
+-- order'. Row 2 stands last in this file, since each row is written with the rows that apply after it.
 -- Assumes nothing.
 use mathlib.Core.Bool.{cond}
 use mathlib.Core.List.{List}
@@ -57,8 +57,8 @@ refusalPlace Size = 0
 -- the same of an outcome: '0 for an accepted format check', and 0 for the place that it does not have
 abbrev pub outcomeNumber : Outcome → ℕ
 outcomeNumber (accepted xs) = 0
-outcomeNumber (refused w) = refusalNumber w
+outcomeNumber (refused why) = refusalNumber why
 
 abbrev pub outcomePlace : Outcome → ℕ
 outcomePlace (accepted xs) = 0
-outcomePlace (refused w) = refusalPlace w
+outcomePlace (refused why) = refusalPlace why

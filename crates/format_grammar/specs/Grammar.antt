@@ -65,8 +65,8 @@ unfoldable pub doubled : ℕ → List ℕ → List ℕ
 doubled m [] = []
 doubled m (c ∷ cs) = cond (eqb c m) (m ∷ m ∷ doubled m cs) (c ∷ doubled m cs)
 
--- 'Literal: one or more characters', its marks m standing at a and at c. (That the mark at c is not the first half of a
--- doubled one follows from what must stand after an item.)
+-- 'Literal: one or more characters', its marks m standing at a and at c. (In an item the mark at c cannot be the first half
+-- of a doubled one, since a comma or a bracket must follow.)
 pub record LiteralAt (s : List ℕ) (a : ℕ) (cs : List ℕ) (c : ℕ) : Type 0 where
   pub m : ℕ
   pub mark : Mark m

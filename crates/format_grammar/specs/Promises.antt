@@ -5,13 +5,13 @@ use mathlib.Core.Logic.{_↔_}
 use mathlib.Core.Bool.{false}
 use mathlib.Core.List.{List, [], _∷_, _++_}
 use Prim.Native.Nat.{ℕ, _+_, _<_, _≤_}
-use lib.ListN.{length, drop}
+use lib.ListN.{length, drop, getD}
 use Rattle.number.specs.Digits.{isDigit}
 use Rattle.format_grammar.specs.Items.{Number, number, Repeat, Field, Items, join}
-use Rattle.format_grammar.specs.Grammar.{At, NumberAt, LiteralAt, Printable, Format, LongestShared}
+use Rattle.format_grammar.specs.Grammar.{At, NumberAt, Mark, LiteralAt, Printable, Format, LongestShared}
 use Rattle.format_grammar.specs.Ranges.{Ranged, ranged, rangeN, rangeW, rangeD, place, numbers, Within, AllWithin}
 use Rattle.format_grammar.specs.Size.{size, largestSize}
-use Rattle.format_grammar.specs.Met.{Met, met, hasGroup, returnPart, returnIndex}
+use Rattle.format_grammar.specs.Met.{Met, met, returnPart, returnIndex}
 use Rattle.format_grammar.specs.Check.{longestFormat, accepted, outcome, outcomeNumber, outcomePlace}
 
 -- ---- numbers and their ranges
@@ -22,20 +22,24 @@ pub record FirstOutsideAt (ns : List Ranged) (p : ℕ) : Type 0 where
   pub n : Ranged
   pub after : List Ranged
   pub split : ns ≡ before ++ n ∷ after
-  pub fine : AllWithin before
-  pub out : Within n → ⊥
+  pub before-within : AllWithin before
+  pub not-within : Within n → ⊥
   pub stands : place n ≡ p
 
--- from a up to b stand bytes that are no digits, and literals
+-- from a up to b stand literals, and bytes that are neither digits nor marks
 pub data NoNumber (s : List ℕ) : ℕ → ℕ → Type 0 where
   none : {a : ℕ} → NoNumber s a a
-  byte : {a c b : ℕ} → At s a c → isDigit c ≡ false → NoNumber s (a + 1) b → NoNumber s a b
+  byte : {a c b : ℕ} → At s a c → isDigit c ≡ false → (Mark c → ⊥) → NoNumber s (a + 1) b → NoNumber s a b
   literal : {a c b : ℕ} {cs : List ℕ} → LiteralAt s a cs c → NoNumber s (c + 1) b → NoNumber s a b
 
--- the numbers, and no others, stand from a up to b, in this order
+-- no digit stands at d
+abbrev pub NoDigit : List ℕ → ℕ → Type 0
+NoDigit s d = d < length s → isDigit (getD s d 0) ≡ false
+
+-- outside literals the numbers ns, each up to its last digit, and no other digits stand from a up to b, in this order
 pub data InOrder (s : List ℕ) : ℕ → List Ranged → ℕ → Type 0 where
   none : {a b : ℕ} → NoNumber s a b → InOrder s a [] b
-  next : {a c d b : ℕ} {n : Number} {low high : ℕ} {ns : List Ranged} → NoNumber s a c → NumberAt s c n d → InOrder s d ns b → InOrder s a (ranged n low high ∷ ns) b
+  next : {a c d b : ℕ} {n : Number} {low high : ℕ} {ns : List Ranged} → NoNumber s a c → NumberAt s c n d → NoDigit s d → InOrder s d ns b → InOrder s a (ranged n low high ∷ ns) b
 
 -- the numbers of a format's items are those of its text, in the order of `numbers`
 abbrev pub NumbersInOrder : Type 0
@@ -103,20 +107,21 @@ RangeRefused = (s : List ℕ) (p : ℕ) → Answers s 4 p ↔ OutOfRange s p
 abbrev pub SizeRefused : Type 0
 SizeRefused = (s : List ℕ) (p : ℕ) → Answers s 5 p ↔ TooLarge s p
 
--- every text is accepted or refused by one of the four rows
-pub data Verdict (s : List ℕ) : ℕ → ℕ → Type 0 where
-  acceptable : {xs : Items} → Acceptable s xs → Verdict s 0 0
-  too-long : {p : ℕ} → TooLong s p → Verdict s 2 p
-  not-grammatical : {p : ℕ} → NotGrammatical s p → Verdict s 3 p
-  out-of-range : {p : ℕ} → OutOfRange s p → Verdict s 4 p
-  too-large : {p : ℕ} → TooLarge s p → Verdict s 5 p
+-- what answers with number n and place p: acceptance, or one of the four rows
+pub data AnsweredBy (s : List ℕ) : ℕ → ℕ → Type 0 where
+  acceptable : {xs : Items} → Acceptable s xs → AnsweredBy s 0 0
+  too-long : {p : ℕ} → TooLong s p → AnsweredBy s 2 p
+  not-grammatical : {p : ℕ} → NotGrammatical s p → AnsweredBy s 3 p
+  out-of-range : {p : ℕ} → OutOfRange s p → AnsweredBy s 4 p
+  too-large : {p : ℕ} → TooLarge s p → AnsweredBy s 5 p
 
+-- every text is accepted or refused by one of the four rows
 abbrev pub AlwaysAnswered : Type 0
-AlwaysAnswered = (s : List ℕ) → Verdict s (outcomeNumber (outcome s)) (outcomePlace (outcome s))
+AlwaysAnswered = (s : List ℕ) → AnsweredBy s (outcomeNumber (outcome s)) (outcomePlace (outcome s))
 
 -- ---- the items met
 
--- as many as the size, so at most 4,096 where the format is accepted
+-- as many items are met as the size says, so at most 4,096 where the format is accepted
 abbrev pub MetIsSize : Type 0
 MetIsSize = (xs : Items) → length (met xs) ≡ size xs
 
@@ -132,19 +137,23 @@ MetWithin (Met.T n) = Within (rangeN (number 0 n))
 MetWithin Met.slash = Unit {0}
 MetWithin (Met.literal cs) = (0 < length cs) × Printable cs
 
--- every item met has
+-- every item met is so
 abbrev pub AllMetWithin : List Met → Type 0
 AllMetWithin [] = Unit {0}
 AllMetWithin (k ∷ ks) = MetWithin k × AllMetWithin ks
 
--- so it is where the format is accepted, and at least one item is met
+-- the items met of an accepted format are so, and there is at least one
 abbrev pub MetInRange : Type 0
 MetInRange = (s : List ℕ) (xs : Items) → Acceptable s xs → AllMetWithin (met xs) × (0 < length (met xs))
 
+-- no group stands among the items themselves
+abbrev pub NoGroup : Items → Type 0
+NoGroup xs = (before : Items) (r : Repeat) (inside after : Items) → xs ≡ join before (Items.group r inside after) → ⊥
+
 -- the part to return to: all of the items where none is a group, else the rightmost group and what follows it
 pub data ReturnsTo (xs : Items) : Items → Type 0 where
-  whole : hasGroup xs ≡ false → ReturnsTo xs xs
-  last : (before : Items) {inside after : Items} {r : Repeat} → xs ≡ join before (Items.group r inside after) → hasGroup after ≡ false → ReturnsTo xs (Items.group r inside after)
+  whole : NoGroup xs → ReturnsTo xs xs
+  last : (before : Items) {inside after : Items} {r : Repeat} → xs ≡ join before (Items.group r inside after) → NoGroup after → ReturnsTo xs (Items.group r inside after)
 
 abbrev pub ReturnPartIs : Type 0
 ReturnPartIs = (xs : Items) → ReturnsTo xs (returnPart xs)

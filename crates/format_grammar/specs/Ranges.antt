@@ -15,7 +15,7 @@ abbrev pub rangeR : Number → Ranged
 rangeR r = ranged r 1 255
 
 abbrev pub rangeN : Number → Ranged
-rangeN n = ranged n 1 255
+rangeN n = rangeR n
 
 -- 'w 1 to 64'
 abbrev pub rangeW : Number → Ranged
@@ -25,7 +25,7 @@ rangeW w = ranged w 1 64
 abbrev pub rangeD : Number → Ranged
 rangeD d = ranged d 0 9
 
--- the numbers of items in the order in which they stand (the law `NumbersInOrder` of `Promises`)
+-- the number of a repeat, and those of a field
 abbrev pub repeatNumbers : Repeat → List Ranged
 repeatNumbers absent = []
 repeatNumbers (given r) = rangeR r ∷ []
@@ -37,6 +37,7 @@ fieldNumbers (L w) = rangeW w ∷ []
 fieldNumbers A = []
 fieldNumbers (Aw w) = rangeW w ∷ []
 
+-- the numbers of items in the order in which they stand (the law `NumbersInOrder` of `Promises`)
 unfoldable pub numbers : Items → List Ranged
 numbers none = []
 numbers (field r k xs) = repeatNumbers r ++ fieldNumbers k ++ numbers xs

@@ -1,5 +1,5 @@
-// An item, and items in brackets: the two readers call each other, the levels left falling at each call, and the text left at
-// each item.
+// An item, and items in brackets: the two readers call each other, the levels left falling at each group, and the text left
+// at each item.
 use crate::Answer;
 use crate::Head;
 use crate::Position;

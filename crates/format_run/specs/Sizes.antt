@@ -1,7 +1,8 @@
 -- A size as far as it matters.
 -- Assumes nothing.
-use Prim.Native.Nat.{ℕ, min}
+use Prim.Native.Nat.{ℕ, _+_, min}
+use Rattle.format_grammar.specs.Size.{largestSize}
 
--- over 4,096 it counts as 4,097
+-- over the largest size it counts as one more than that
 abbrev pub capped : ℕ → ℕ
-capped n = min n 4097
+capped n = min n (largestSize + 1)
