@@ -1,0 +1,6 @@
+pub mod Refusals
+pub mod Steps
+pub mod Walk
+pub mod Columns
+pub mod Laid
+pub mod Promises

@@ -1,0 +1,98 @@
+-- What the theorems of proofs/Promises.antt say of the walk.
+-- Assumes nothing.
+use mathlib.Core.Path.{_≡_}
+use mathlib.Core.Logic.{_↔_}
+use mathlib.Core.Bool.{true, false}
+use mathlib.Core.List.{List, [], _∷_}
+use Prim.Native.Nat.{ℕ, zero, suc, _+_, _*_, _<_, _≤_}
+use lib.ListN.{length, getD}
+use Rattle.format_grammar.specs.Items.{Field}
+use Rattle.format_grammar.specs.Promises.{AllMetWithin}
+use Rattle.list_elements.specs.Elements.{Kind, integer}
+use Rattle.sheet_walk.specs.Steps.{What, element, literal, Placement, suits, fieldWidth}
+use Rattle.sheet_walk.specs.Walk.{Sheet, Trace, put, done, stopped, return, atEnd, walk}
+use Rattle.sheet_walk.specs.Columns.{In, CoveredTwice, coveredTwice}
+use Rattle.sheet_walk.specs.Laid.{offsetOf, laid, columns}
+use Rattle.sheet_walk.specs.declared.Records.{Records}
+use Rattle.sheet_walk.specs.declared.State.{State}
+
+-- ---- the walk is total
+
+-- at the end of the format the walk ends, is refused, or goes on with the part to return to, and at the end of that part in
+-- the same way: the count in `returns` is never felt
+abbrev pub EndIs : Type 0
+EndIs = (h : Sheet) (s : State) → atEnd h s ≡ return h (atEnd h) s
+
+-- each return takes at least one element, or is refused: what follows matters only where more elements are taken
+abbrev pub ReturnTakes : Type 0
+ReturnTakes =
+    (h : Sheet) (s : State) (next other : State → Trace) → ((n : State) → s .taken < n .taken → next n ≡ other n) → return h next s ≡ return h other s
+
+-- ---- what is covered
+
+-- a sheet whose items have their numbers within their ranges, as those of an accepted format (`MetInRange`), and with a record
+pub record Walkable (h : Sheet) : Type 0 where
+  pub items-within : AllMetWithin (h .items)
+  pub part-within : AllMetWithin (h .part)
+  pub some-record : 0 < h .records .count
+
+-- the walk ends with n records reached
+pub data EndsWith (n : ℕ) : Trace → Type 0 where
+  here : EndsWith n (done n)
+  there : {p : Placement} {t : Trace} → EndsWith n t → EndsWith n (put p t)
+
+-- a placement lies in one of n records that are R wide: 'A covered column is at most R'
+pub record Inside (R n : ℕ) (p : Placement) : Type 0 where
+  pub in-record : p .row < n
+  pub from : 1 ≤ p .column
+  pub to : p .column + p .width ≤ R + 1
+
+-- every placement lies in the records, and in those reached where the walk ends
+abbrev pub CoversInside : Type 0
+CoversInside = (h : Sheet) → Walkable h → (p : Placement) → In p (walk h) → Inside (h .records .width) (h .records .count) p
+
+abbrev pub CoversReached : Type 0
+CoversReached =
+    (h : Sheet) → Walkable h → (n : ℕ) → EndsWith n (walk h) → (n ≤ h .records .count) × ((p : Placement) → In p (walk h) → Inside (h .records .width) n p)
+
+-- an element under a field: there is such an element, its kind suits the field, and the width is the field's for this kind
+pub record Suited (kinds : List Kind) (i : ℕ) (f : Field ℕ) (w : ℕ) : Type 0 where
+  pub known : i < length kinds
+  pub suited : suits f (getD kinds i integer) ≡ true
+  pub wide : w ≡ fieldWidth f (getD kinds i integer)
+
+abbrev pub ElementsSuited : Type 0
+ElementsSuited =
+    (h : Sheet) (p : Placement) → In p (walk h) → (i : ℕ) (f : Field ℕ) → p .what ≡ element i f → Suited (h .kinds) i f (p .width)
+
+-- the places of the elements that are put, in order
+abbrev pub placeOf : What → List ℕ → List ℕ
+placeOf (element i f) is = i ∷ is
+placeOf (literal cs) is = is
+
+unfoldable pub elementsPut : Trace → List ℕ
+elementsPut (put p t) = placeOf (p .what) (elementsPut t)
+elementsPut (done n) = []
+elementsPut (stopped why) = []
+
+-- the n numbers from i on
+unfoldable pub numbersFrom : ℕ → ℕ → List ℕ
+numbersFrom i zero = []
+numbersFrom i (suc n) = i ∷ numbersFrom (i + 1) n
+
+-- a walk that ends puts every element of the list once, in order
+abbrev pub PutsEach : Type 0
+PutsEach = (h : Sheet) (n : ℕ) → EndsWith n (walk h) → elementsPut (walk h) ≡ numbersFrom 0 (length (h .kinds))
+
+-- ---- columns covered twice
+
+abbrev pub CoveredTwiceIs : Type 0
+CoveredTwiceIs = (t : Trace) → (coveredTwice t ≡ true) ↔ ((r : ℕ) × (c : ℕ) × CoveredTwice r c t)
+
+-- where no column is covered twice, the bytes in a placement's columns are its characters: for a buffer that holds n records
+-- and characters as many as the columns
+abbrev pub ColumnsKept : Type 0
+ColumnsKept =
+    (R n : ℕ) (characters : Placement → List ℕ) (t : Trace) (buffer : List ℕ) → coveredTwice t ≡ false → n * R ≤ length buffer
+    → ((p : Placement) → In p t → Inside R n p × (length (characters p) ≡ p .width))
+    → (p : Placement) → In p t → columns R p (laid R characters t buffer) ≡ characters p

@@ -1,0 +1,28 @@
+-- Document 01, 'Checks by place': the columns 'No.' and 'Place' of a sheet's refusals.
+-- Assumes nothing.
+use Prim.Native.Nat.{ℕ}
+use Rattle.format_grammar.specs.Check as format
+use Rattle.sheet_walk.specs.declared.Refusal.{Refusal}
+use Rattle.sheet_walk.specs.declared.Refusal.the-variants.{RecordWidth, Format, Element, NoRecord, NextRecord, NoField, Kind, Column, TooLarge}
+
+abbrev pub refusalNumber : Refusal → ℕ
+refusalNumber RecordWidth = 1
+refusalNumber (Format why) = format.refusalNumber why
+refusalNumber (Element p) = 6
+refusalNumber NoRecord = 9
+refusalNumber (NextRecord p) = 9
+refusalNumber (NoField p) = 10
+refusalNumber (Kind p) = 7
+refusalNumber (Column p) = 8
+refusalNumber (TooLarge p) = 11
+
+abbrev pub refusalPlace : Refusal → ℕ
+refusalPlace RecordWidth = 0
+refusalPlace (Format why) = format.refusalPlace why
+refusalPlace (Element p) = p
+refusalPlace NoRecord = 0
+refusalPlace (NextRecord p) = p
+refusalPlace (NoField p) = p
+refusalPlace (Kind p) = p
+refusalPlace (Column p) = p
+refusalPlace (TooLarge p) = p

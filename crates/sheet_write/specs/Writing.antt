@@ -1,0 +1,106 @@
+-- Document 01, 'The walk' and 'Checks by place': writing. The outcome and the buffer afterwards, for every record width R,
+-- format, list, text area and buffer.
+-- Assumes nothing.
+use mathlib.Core.Bool.{Bool, _&&_, cond}
+use mathlib.Core.List.{List, map}
+use Prim.Native.Nat.{ℕ, _/_}
+use lib.Dec.{leb, eqb}
+use lib.ListN.{length}
+use Rattle.format_grammar.specs.Items.{Items}
+use Rattle.format_grammar.specs.Check as formats
+use Rattle.list_elements.specs.Elements.{kindOf, values}
+use Rattle.list_elements.specs.Limits.{listCheck}
+use Rattle.list_elements.specs.declared.Value.{Value}
+use Rattle.list_elements.specs.declared.List as carried
+use Rattle.list_elements.specs.declared.ListCheck.{ListCheck}
+use Rattle.list_elements.specs.declared.ListCheck.the-variants.{Good, Bad}
+use Rattle.sheet_walk.specs.Refusals.{refusalNumber, refusalPlace}
+use Rattle.sheet_walk.specs.Walk.{Trace, sheet, walk}
+use Rattle.sheet_walk.specs.Laid.{written}
+use Rattle.sheet_walk.specs.declared.Refusal.{Refusal}
+use Rattle.sheet_walk.specs.declared.Refusal.the-variants.{RecordWidth, Format, Element, NoRecord}
+use Rattle.write_passes.specs.Placed.{characters, starredIn, Judged, accepted, refused, judged}
+use Rattle.sheet_write.specs.declared.Written.{Written}
+use Rattle.sheet_write.specs.declared.Written.the-variants as answer
+
+-- accepted, with the walk and the number of records reached, or refused
+pub data Writing : Type 0 where
+  accepts : Trace → (records : ℕ) → Writing
+  refuses : Refusal → Writing
+
+-- what is made of a walk and how it ends
+abbrev pub concluded : Trace → Judged → Writing
+concluded t (accepted n) = accepts t n
+concluded t (refused why) = refuses why
+
+-- the walk's rows: 'the first refusal on the walk counts'
+abbrev pub walked : List Value → Trace → Writing
+walked vs t = concluded t (judged vs t)
+
+-- ---- the rows before the walk, 'in this order'; each is written with the rows that apply after it, so that row 1 stands last
+
+-- row 9, 'buffer, before the walk': 'A lent buffer of B bytes holds B / R whole records, rounded down.'
+abbrev pub checkBuffer : ℕ → Items → List Value → ℕ → Writing
+checkBuffer R xs vs B =
+    cond (eqb (B / R) 0) (refuses NoRecord) (walked vs (walk (sheet xs (map kindOf vs) (record { width = R; count = B / R }))))
+
+-- row 6
+abbrev pub checkList : ℕ → Items → ListCheck → List Value → ℕ → Writing
+checkList R xs Good vs B = checkBuffer R xs vs B
+checkList R xs (Bad p) vs B = refuses (Element p)
+
+-- rows 2 to 5
+abbrev pub checkFormat : ℕ → formats.Outcome → ListCheck → List Value → ℕ → Writing
+checkFormat R (formats.accepted xs) check vs B = checkList R xs check vs B
+checkFormat R (formats.refused why) check vs B = refuses (Format why)
+
+-- 'The record width R is 1 to 255.'
+abbrev pub widthRight : ℕ → Bool
+widthRight R = leb 1 R && leb R 255
+
+-- row 1: the whole of writing, for a list whose check is given and that has the values vs
+unfoldable pub writingOf : ℕ → List ℕ → ListCheck → List Value → ℕ → Writing
+writingOf R format check vs B = cond (widthRight R) (checkFormat R (formats.outcome format) check vs B) (refuses RecordWidth)
+
+-- for the carried list
+abbrev pub writing : ℕ → List ℕ → carried.List → List ℕ → ℕ → Writing
+writing R format l area B = writingOf R format (listCheck area l) (values l) B
+
+-- ---- the answer, and the buffer afterwards
+
+-- 'The result carries the number of records and the number of starred fields'
+abbrev pub answerOf : List Value → Writing → Written
+answerOf vs (accepts t n) = answer.Accepted n (starredIn vs t)
+answerOf vs (refuses why) = answer.Refused why
+
+-- 'every lent byte is then as before the call'
+abbrev pub bufferOf : ℕ → List ℕ → List Value → List ℕ → Writing → List ℕ
+bufferOf R area vs buffer (accepts t n) = written R (characters area vs) t n buffer
+bufferOf R area vs buffer (refuses why) = buffer
+
+-- what `write` answers
+abbrev pub writeAnswer : ℕ → List ℕ → carried.List → List ℕ → List ℕ → Written
+writeAnswer R format l area buffer = answerOf (values l) (writing R format l area (length buffer))
+
+-- and leaves in the buffer
+abbrev pub writeBuffer : ℕ → List ℕ → carried.List → List ℕ → List ℕ → List ℕ
+writeBuffer R format l area buffer = bufferOf R area (values l) buffer (writing R format l area (length buffer))
+
+-- ---- document 01's number, place, records and starred of each answer: 'A refusal carries number and place, and besides them
+-- zero records, zero starred'; 0 where an accepted writing has no number and place
+
+abbrev pub answerNumber : Written → ℕ
+answerNumber (answer.Accepted n k) = 0
+answerNumber (answer.Refused why) = refusalNumber why
+
+abbrev pub answerPlace : Written → ℕ
+answerPlace (answer.Accepted n k) = 0
+answerPlace (answer.Refused why) = refusalPlace why
+
+abbrev pub answerRecords : Written → ℕ
+answerRecords (answer.Accepted n k) = n
+answerRecords (answer.Refused why) = 0
+
+abbrev pub answerStarred : Written → ℕ
+answerStarred (answer.Accepted n k) = k
+answerStarred (answer.Refused why) = 0

@@ -1,0 +1,1 @@
+// The two passes of writing over the walk.
