@@ -52,6 +52,17 @@ impl List {
     }
 }
 
+// The kinds as numbers. An element's kind is kept as kind + KIND_BASE * length, the length being that of a text, else 0.
+pub const KIND_INTEGER: u64 = 0;
+
+pub const KIND_DECIMAL: u64 = 1;
+
+pub const KIND_LOGICAL: u64 = 2;
+
+pub const KIND_TEXT: u64 = 3;
+
+pub const KIND_BASE: u64 = 4;
+
 // The check of a list: row 6 of document 01's 'Checks by place'.
 pub enum ListCheck {
     Good,

@@ -3,4 +3,5 @@ pub mod Steps
 pub mod Walk
 pub mod Columns
 pub mod Laid
+pub mod Turns
 pub mod Promises

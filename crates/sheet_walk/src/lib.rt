@@ -1,4 +1,9 @@
 // The walk over the items met: one step of it, for writing and reading.
+pub mod fields;
+pub mod items;
+pub mod refusals;
+pub mod turns;
+
 use format_grammar::FormatRefusal;
 
 // A sheet refused: rows of document 01's 'Checks by place'.

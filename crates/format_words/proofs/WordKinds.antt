@@ -1,0 +1,59 @@
+-- The item that a word stands for, by its kind.
+-- Assumes nothing.
+use mathlib.Core.Path.{_≡_, refl}
+use mathlib.Core.Bool.{Bool, true, false}
+use mathlib.Core.List.{List}
+use Prim.Native.Nat.{ℕ, zero, suc, _+_, _<_, _≤_}
+use native.Mathlib.Omega.{arith}
+use borrow.Author.Tests.{ne-eqb}
+use lib.ListN.{length, take, drop, length-take, length-drop}
+use Rattle.format_grammar.specs.Items.{Field}
+use Rattle.format_grammar.specs.Met.{Met}
+use Rattle.format_words.specs.Words.{kindOf, firstOf, secondOf, metOf, reach}
+
+module _ (t : List ℕ) (w : ℕ) where
+  pub is-I : kindOf w ≡ 0 → metOf t w ≡ Met.field (Field.I (firstOf w))
+  unfolding metOf
+  is-I e = rw e
+
+  pub is-F : kindOf w ≡ 1 → metOf t w ≡ Met.field (Field.F (firstOf w) (secondOf w))
+  unfolding metOf
+  is-F e = rw e
+
+  pub is-L : kindOf w ≡ 2 → metOf t w ≡ Met.field (Field.L (firstOf w))
+  unfolding metOf
+  is-L e = rw e
+
+  pub is-A : kindOf w ≡ 3 → metOf t w ≡ Met.field Field.A
+  unfolding metOf
+  is-A e = rw e
+
+  pub is-Aw : kindOf w ≡ 4 → metOf t w ≡ Met.field (Field.Aw (firstOf w))
+  unfolding metOf
+  is-Aw e = rw e
+
+  pub is-X : kindOf w ≡ 5 → metOf t w ≡ Met.X (firstOf w)
+  unfolding metOf
+  is-X e = rw e
+
+  pub is-T : kindOf w ≡ 6 → metOf t w ≡ Met.T (firstOf w)
+  unfolding metOf
+  is-T e = rw e
+
+  pub is-slash : kindOf w ≡ 7 → metOf t w ≡ Met.slash
+  unfolding metOf
+  is-slash e = rw e
+
+  pub is-literal : 7 < kindOf w → metOf t w ≡ Met.literal (take (secondOf w) (drop (firstOf w) t))
+  unfolding metOf
+  is-literal h =
+      rw (
+        ne-eqb (kindOf w) 0 (λ e. omega arith),
+        ne-eqb (kindOf w) 1 (λ e. omega arith),
+        ne-eqb (kindOf w) 2 (λ e. omega arith),
+        ne-eqb (kindOf w) 3 (λ e. omega arith),
+        ne-eqb (kindOf w) 4 (λ e. omega arith),
+        ne-eqb (kindOf w) 5 (λ e. omega arith),
+        ne-eqb (kindOf w) 6 (λ e. omega arith),
+        ne-eqb (kindOf w) 7 (λ e. omega arith),
+      )

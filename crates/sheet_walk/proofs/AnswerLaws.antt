@@ -1,0 +1,109 @@
+-- What the code's steps answer, from what their tests say.
+-- Assumes nothing.
+use mathlib.Core.Path.{_≡_, refl, sym, ap, _∙_}
+use mathlib.Core.Bool.{Bool, true, false}
+use mathlib.Core.List.{List, [], _∷_, map}
+use Prim.Native.Nat.{ℕ, zero, suc, _+_, _-_, _*_, _/_, _%_, _^_, _<_, _≤_}
+use native.Mathlib.Nat.{suc-mul, mul-le-mul-right}
+use native.Mathlib.Numerals.{add-one}
+use native.Mathlib.Omega.{arith}
+use borrow.Author.Tests.{le-leb, lt-leb, eq-eqb, ne-eqb}
+use lib.Dec.{eqb}
+use lib.ListN.{length, getD, drop, length-map, List·getD-map, drop-of-length-le}
+use lib.Seq.{drop-cons}
+use Rattle.format_grammar.specs.Items.{Field}
+use Rattle.list_elements.specs.Elements.{Kind, integer}
+use Rattle.list_elements.specs.Apart.{kindFrom}
+use Rattle.sheet_walk.specs.Steps.{state, What, element, suits, fieldWidth, coverStep, fieldStep}
+use Rattle.sheet_walk.specs.Turns.{Standing, fieldKind, fieldColumns, stepAnswer}
+use Rattle.sheet_walk.specs.declared.Refusal.the-variants as refusal
+use Rattle.sheet_walk.specs.declared.Records.{Records}
+use Rattle.sheet_walk.specs.declared.State.{State}
+use Rattle.sheet_walk.specs.declared.Step.{Step}
+use Rattle.sheet_walk.specs.declared.Step.the-variants as answer
+
+-- a whole record fits after those before it
+pub room : (r n w : ℕ) → r < n → r * w + w ≤ n * w
+room r n w h = rw (← suc-mul r w) (mul-le-mul-right w h)
+
+-- so the offset of a column fits a machine's number
+pub offset-fits : {rs : Records} {s : State} → Standing rs s → s .row * rs .width + (s .column - 1) < 2 ^ 63
+offset-fits {rs} {s} h = omega (arith, room (s .row) (rs .count) (rs .width) (h .in-record), h .from, h .to, h .fits)
+
+-- ---- covering
+
+module _ (rs : Records) (s : State) (w taken : ℕ) (h : s .column ≤ rs .width + 1) where
+  pub cover-fits : w ≤ rs .width + 1 - s .column → (what : What)
+      → answer.Covers (s .row * rs .width + (s .column - 1)) w (state (s .row) (s .column + w) taken) ≡ stepAnswer (rs .width) (coverStep rs s what w taken)
+  cover-fits l what = let g : s .column + w ≤ rs .width + 1 = omega arith in rw (le-leb (s .column + w) (rs .width + 1) g)
+
+  pub cover-refused : rs .width + 1 - s .column < w → (what : What)
+      → answer.Refused (refusal.Column (s .taken)) ≡ stepAnswer (rs .width) (coverStep rs s what w taken)
+  cover-refused l what = let g : rs .width + 1 < s .column + w = omega arith in rw (lt-leb (s .column + w) (rs .width + 1) g)
+
+-- ---- a list of kinds as numbers
+
+pub kinds-more : (ks : List ℕ) (i : ℕ) → i < length ks → drop i (map kindFrom ks) ≡ kindFrom (getD ks i 0) ∷ drop (i + 1) (map kindFrom ks)
+kinds-more ks i h =
+    let hm : i < length (map kindFrom ks) = rw length-map h in
+    rw (add-one, drop-cons (map kindFrom ks) i (kindFrom 0) hm, List·getD-map kindFrom ks i 0)
+
+pub kinds-none : (ks : List ℕ) (i : ℕ) → length ks ≤ i → drop i (map kindFrom ks) ≡ []
+kinds-none ks i h =
+    let hm : length (map kindFrom ks) ≤ i = rw length-map h in
+    drop-of-length-le (map kindFrom ks) hm
+
+-- ---- fields
+
+suits-by : (f : Field ℕ) (k n : ℕ) → k % 4 ≡ n → n < 4 → suits f (kindFrom k) ≡ eqb n (fieldKind f)
+unfolding kindFrom
+suits-by (Field.I w) k zero e h = rw e
+suits-by (Field.I w) k (suc zero) e h = rw e
+suits-by (Field.I w) k (suc (suc zero)) e h = rw e
+suits-by (Field.I w) k (suc (suc (suc zero))) e h = rw e
+suits-by (Field.F w d) k zero e h = rw e
+suits-by (Field.F w d) k (suc zero) e h = rw e
+suits-by (Field.F w d) k (suc (suc zero)) e h = rw e
+suits-by (Field.F w d) k (suc (suc (suc zero))) e h = rw e
+suits-by (Field.L w) k zero e h = rw e
+suits-by (Field.L w) k (suc zero) e h = rw e
+suits-by (Field.L w) k (suc (suc zero)) e h = rw e
+suits-by (Field.L w) k (suc (suc (suc zero))) e h = rw e
+suits-by Field.A k zero e h = rw e
+suits-by Field.A k (suc zero) e h = rw e
+suits-by Field.A k (suc (suc zero)) e h = rw e
+suits-by Field.A k (suc (suc (suc zero))) e h = rw e
+suits-by (Field.Aw w) k zero e h = rw e
+suits-by (Field.Aw w) k (suc zero) e h = rw e
+suits-by (Field.Aw w) k (suc (suc zero)) e h = rw e
+suits-by (Field.Aw w) k (suc (suc (suc zero))) e h = rw e
+suits-by f k (suc (suc (suc (suc n)))) e h = absurd (omega arith)
+
+pub suits-is : (f : Field ℕ) (k : ℕ) → suits f (kindFrom k) ≡ eqb (k % 4) (fieldKind f)
+suits-is f k = suits-by f k (k % 4) refl (omega arith)
+
+pub width-is : (f : Field ℕ) (k : ℕ) → k % 4 ≡ fieldKind f → fieldWidth f (kindFrom k) ≡ fieldColumns f k
+unfolding kindFrom
+width-is (Field.I w) k e = refl
+width-is (Field.F w d) k e = refl
+width-is (Field.L w) k e = refl
+width-is Field.A k e = rw e
+width-is (Field.Aw w) k e = refl
+
+module _ (rs : Records) (s : State) (ks : List ℕ) (kind width : ℕ) (f : Field ℕ) (fk : fieldKind f ≡ kind) (fc : fieldColumns f (getD ks (s .taken) 0) ≡ width) where
+  pub field-covers : s .taken < length ks → getD ks (s .taken) 0 % 4 ≡ kind → {r : Step}
+      → ((what : What) → r ≡ stepAnswer (rs .width) (coverStep rs s what width (s .taken + 1)))
+      → r ≡ stepAnswer (rs .width) (fieldStep rs s f (drop (s .taken) (map kindFrom ks)))
+  field-covers h e g =
+      let k = getD ks (s .taken) 0 in
+      let w : fieldWidth f (kindFrom k) ≡ width = width-is f k (e ∙ sym fk) ∙ fc in
+      rw (kinds-more ks (s .taken) h, suits-is f k, fk, eq-eqb (k % 4) kind e, w) (g (element (s .taken) f))
+
+  pub field-refused : s .taken < length ks → (getD ks (s .taken) 0 % 4 ≡ kind → ⊥)
+      → answer.Refused (refusal.Kind (s .taken)) ≡ stepAnswer (rs .width) (fieldStep rs s f (drop (s .taken) (map kindFrom ks)))
+  field-refused h e =
+      let k = getD ks (s .taken) 0 in
+      rw (kinds-more ks (s .taken) h, suits-is f k, fk, ne-eqb (k % 4) kind e)
+
+  pub field-ends : length ks ≤ s .taken → answer.Ends ≡ stepAnswer (rs .width) (fieldStep rs s f (drop (s .taken) (map kindFrom ks)))
+  field-ends h = rw (kinds-none ks (s .taken) h)

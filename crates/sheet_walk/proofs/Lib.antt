@@ -1,0 +1,10 @@
+pub mod StepLaws
+pub mod Returns
+pub mod Covering
+pub mod Twice
+pub mod SpliceLaws
+pub mod Windows
+pub mod Promises
+pub mod AnswerLaws
+pub mod ItemLaws
+pub mod TurnLaws

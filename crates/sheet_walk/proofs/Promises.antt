@@ -1,0 +1,37 @@
+-- The theorems on the walk that specs/Promises.antt states.
+-- Assumes nothing.
+use Rattle.sheet_walk.specs.Promises.{EndIs, ReturnTakes, CoversInside, CoversReached, ElementsSuited, PutsEach, CoveredTwiceIs, ColumnsKept}
+use Rattle.sheet_walk.proofs.Returns
+use Rattle.sheet_walk.proofs.Covering
+use Rattle.sheet_walk.proofs.Twice
+use Rattle.sheet_walk.proofs.Windows
+
+-- ---- the walk is total
+
+pub end-is : EndIs
+end-is = Returns.end-is
+
+pub return-takes : ReturnTakes
+return-takes = Returns.return-takes
+
+-- ---- what is covered
+
+pub covers-inside : CoversInside
+covers-inside = Covering.covers-inside
+
+pub covers-reached : CoversReached
+covers-reached = Covering.covers-reached
+
+pub elements-suited : ElementsSuited
+elements-suited = Covering.elements-suited
+
+pub puts-each : PutsEach
+puts-each = Covering.puts-each
+
+-- ---- columns covered twice
+
+pub covered-twice-is : CoveredTwiceIs
+covered-twice-is = Twice.covered-twice-is
+
+pub columns-kept : ColumnsKept
+columns-kept = Windows.columns-kept

@@ -1,0 +1,91 @@
+-- The walk over a run of words, turn by turn, as the code takes it. (Nothing here need be believed: the laws of proofs/ tie it
+-- to the walk.)
+-- Assumes nothing.
+use mathlib.Core.Bool.{cond}
+use mathlib.Core.List.{List, map}
+use Prim.Native.Nat.{ℕ, _+_, _*_, _/_, _^_, _<_, _≤_}
+use lib.Dec.{ltb}
+use lib.ListN.{length, drop, getD}
+use Rattle.format_grammar.specs.Items.{Field}
+use Rattle.format_grammar.specs.Met.{Met}
+use Rattle.format_words.specs.Words.{metOf}
+use Rattle.list_elements.specs.Apart.{kindFrom}
+use Rattle.sheet_walk.specs.Steps as steps
+use Rattle.sheet_walk.specs.Walk.{Sheet}
+use Rattle.sheet_walk.specs.Laid.{offsetOf}
+use Rattle.sheet_walk.specs.declared.Records.{Records}
+use Rattle.sheet_walk.specs.declared.State.{State}
+use Rattle.sheet_walk.specs.declared.Cursor.{Cursor}
+use Rattle.sheet_walk.specs.declared.Step.{Step}
+use Rattle.sheet_walk.specs.declared.Step.the-variants as answer
+use Rattle.sheet_walk.specs.declared.Turn.{Turn}
+use Rattle.sheet_walk.specs.declared.Turn.the-variants as turn
+
+-- the walk stands in a record, at a column of it or just past its last one, and no number is beyond a machine's
+pub record Standing (rs : Records) (s : State) : Type 0 where
+  pub in-record : s .row < rs .count
+  pub from : 1 ≤ s .column
+  pub to : s .column ≤ rs .width + 1
+  pub narrow : rs .width < 256
+  pub many : rs .count < 2 ^ 63
+  pub fits : rs .count * rs .width < 2 ^ 63
+  pub few : s .taken < 2 ^ 32
+
+-- ---- the kind that a field takes, and its columns under an element's kind, as numbers
+
+abbrev pub fieldKind : Field ℕ → ℕ
+fieldKind (Field.I w) = 0
+fieldKind (Field.F w d) = 1
+fieldKind (Field.L w) = 2
+fieldKind Field.A = 3
+fieldKind (Field.Aw w) = 3
+
+abbrev pub fieldColumns : Field ℕ → ℕ → ℕ
+fieldColumns (Field.I w) k = w
+fieldColumns (Field.F w d) k = w
+fieldColumns (Field.L w) k = w
+fieldColumns Field.A k = k / 4
+fieldColumns (Field.Aw w) k = w
+
+-- ---- steps and turns
+
+-- a step as the code answers it: where the covered columns stand in a buffer of records R wide, and how many they are
+abbrev pub stepAnswer : ℕ → steps.Step → Step
+stepAnswer R (steps.moves n) = answer.Moves n
+stepAnswer R (steps.covers p n) = answer.Covers (offsetOf R p) (p .width) n
+stepAnswer R (steps.refused why) = answer.Refused why
+stepAnswer R steps.ends = answer.Ends
+
+abbrev pub cursor : ℕ → State → Cursor
+cursor i s = record { index = i; state = s }
+
+-- the turn of such a step, taken from s, after which the next item is that of an index
+abbrev pub onwardAnswer : State → ℕ → Step → Turn
+onwardAnswer s i (answer.Moves n) = turn.Goes (cursor i n)
+onwardAnswer s i (answer.Covers a w n) = turn.Covers a w (cursor i n)
+onwardAnswer s i (answer.Refused why) = turn.Refused why
+onwardAnswer s i answer.Ends = turn.Ends (s .row + 1)
+
+-- what the walk goes by, as words and numbers
+abbrev pub sheetOf : List ℕ → List ℕ → ℕ → List ℕ → Records → Sheet
+sheetOf t words back kinds rs =
+    record {
+      items = map (metOf t) words;
+      part = drop back (map (metOf t) words);
+      kinds = map kindFrom kinds;
+      records = rs;
+    }
+
+-- the step of a cursor, and the index of the item after it, the part to return to beginning at `back`
+unfoldable pub stepAt : Sheet → Cursor → steps.Step
+stepAt h c =
+    cond (ltb (c .index) (length (h .items)))
+    (steps.step (h .kinds) (h .records) (getD (h .items) (c .index) Met.slash) (c .state))
+    (steps.endStep (h .kinds) (h .records) (h .part) (c .state))
+
+unfoldable pub indexAfter : Sheet → ℕ → Cursor → ℕ
+indexAfter h back c = cond (ltb (c .index) (length (h .items))) (c .index + 1) back
+
+-- the turn
+abbrev pub turnOf : Sheet → ℕ → Cursor → Turn
+turnOf h back c = onwardAnswer (c .state) (indexAfter h back c) (stepAnswer (h .records .width) (stepAt h c))
