@@ -6,8 +6,8 @@ use Prim.Native.Nat.{ℕ, _+_, _<_, _≤_}
 use native.Mathlib.Nat.{add-assoc, add-zero}
 use native.Mathlib.Numerals.{add-one}
 use native.Mathlib.Omega.{arith}
-use lib.ListN.{length, take, drop, set, getD, length-append, length-set, take-append-drop}
-use lib.Seq.{paste, paste-zero, paste-suc, take-length, length-take-le, drop-append-add, take-at, drop-drop, set-split, append-snoc}
+use lib.ListN.{length, take, drop, set, getD, length-append, length-set, length-drop, take-append-drop}
+use lib.Seq.{paste, paste-zero, paste-suc, take-length, length-take-le, drop-append-add, take-at, drop-drop, set-split, append-snoc, getD-take, getD-drop}
 use Rattle.buffer.specs.Splice.{splice}
 
 -- all of xs is pasted
@@ -70,3 +70,11 @@ pub written-all : {d₀ : List ℕ} {at n : ℕ} {xs d : List ℕ} {i : ℕ} →
 written-all {d₀} {at} {n} {xs} {d} {i} w h =
     let k : i ≡ length xs = omega arith in
     w .is ∙ ap (λ (j : ℕ). paste d₀ at xs j) k ∙ sym (splice-paste d₀ at xs)
+
+-- ---- the n bytes from offset `from` on
+
+pub length-part : (s : List ℕ) (from n : ℕ) → from + n ≤ length s → length (take n (drop from s)) ≡ n
+length-part s from n h = length-take-le n (drop from s) (rw length-drop (omega arith))
+
+pub part-at : (s : List ℕ) (from n i : ℕ) → i < n → getD (take n (drop from s)) i 0 ≡ getD s (from + i) 0
+part-at s from n i h = rw (getD-take, getD-drop)

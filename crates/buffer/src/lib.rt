@@ -1,7 +1,7 @@
 // Bytes laid into a lent buffer.
 ghost use mathlib.Core.Path.{_≡_};
 ghost use Prim.Native.Nat.{_+_, _≤_};
-ghost use lib.ListN.{length, replicate};
+ghost use lib.ListN.{length, replicate, take, drop};
 ghost use Rattle.buffer.specs.Splice.{splice};
 
 // n bytes b from offset at on.
@@ -12,6 +12,18 @@ pub fn fill(dst: &mut [u8], at: usize, n: usize, b: u8)
     let mut i: usize = 0;
     while i < n {
         dst[at + i] = b;
+        i += 1;
+    }
+}
+
+// The n bytes of src from offset `from` on, laid from offset at on.
+pub fn copy(dst: &mut [u8], at: usize, src: &[u8], from: usize, n: usize)
+    requires { ⌜ (at + n ≤ length (now dst)) × (from + n ≤ length (now src)) ⌝ }
+    ensures { λ r. ⌜ now (dst .exit) ≡ splice (now (dst .entry)) at (take n (drop from (now (src .entry)))) ⌝ }
+{
+    let mut i: usize = 0;
+    while i < n {
+        dst[at + i] = src[from + i];
         i += 1;
     }
 }
