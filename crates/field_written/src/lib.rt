@@ -1,8 +1,10 @@
-// Numeric fields written: integers under Iw, decimals under Fw.d.
+// Fields written: integers under Iw, decimals under Fw.d, logicals under Lw, texts under Aw.
 mod columns;
 pub mod decimal;
 pub mod integer;
+pub mod logical;
 mod parts;
+pub mod text;
 
 // The sign in front of a numeral.
 pub enum Sign {
