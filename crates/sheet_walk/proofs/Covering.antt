@@ -51,7 +51,7 @@ moved-stands h x s n i within m l =
     }
 
 -- what covers takes an element that there is, or none
-few-covered : (kinds : List Kind) (x : Met) (s : State) (w : ℕ) (what : What) → CoveredBy kinds x s w what → s .taken ≤ length kinds → s .taken + fieldsOf x ≤ length kinds
+pub few-covered : (kinds : List Kind) (x : Met) (s : State) (w : ℕ) (what : What) → CoveredBy kinds x s w what → s .taken ≤ length kinds → s .taken + fieldsOf x ≤ length kinds
 few-covered kinds x s w (element i f) by l = rw (by .0) (omega arith)
 few-covered kinds x s w (literal cs) by l = rw (by .0) (omega arith)
 

@@ -8,3 +8,4 @@ pub mod Promises
 pub mod AnswerLaws
 pub mod ItemLaws
 pub mod TurnLaws
+pub mod Turned

@@ -5,7 +5,7 @@ use mathlib.Core.Bool.{Bool, true, false, cond}
 use mathlib.Core.List.{List, [], _∷_}
 use Prim.Native.Nat.{ℕ, _+_, _<_, _≤_}
 use native.Mathlib.Omega.{arith}
-use borrow.Author.Tests.{ltb-true, ltb-false, leb-true}
+use borrow.Author.Tests.{ltb-true, ltb-false, leb-true, leb-false}
 use lib.Dec.{ltb, leb}
 use lib.ListN.{length, drop, getD, drop-of-length-le}
 use lib.Seq.{drop-cons}
@@ -135,7 +135,7 @@ module _ (kinds : List Kind) (rs : Records) (s : State) where
 
   -- the end of the format: the walk ends where no element remains, goes on as at a slash to a part with a field, or is refused
   abbrev pub AtEnd : List Met → Step → Type 0
-  AtEnd part (moves n) = Moved rs Met.slash s n × (1 ≤ fieldsIn part)
+  AtEnd part (moves n) = Moved rs Met.slash s n × (1 ≤ fieldsIn part) × (s .taken < length kinds)
   AtEnd part (covers p n) = ⊥
   AtEnd part (refused why) = Unit {0}
   AtEnd part ends = length kinds ≤ s .taken
@@ -149,5 +149,5 @@ module _ (kinds : List Kind) (rs : Records) (s : State) where
       by-test (AtEnd part) (hasField part) (nextRecord rs s) (refused (refusal.NoField (s .taken)))
       (λ f.
       by-test (AtEnd part) (ltb (s .row + 1) (rs .count)) (moves (state (s .row + 1) 1 (s .taken))) (refused (refusal.NextRecord (s .taken)))
-      (λ g. (next-moved g, has-fields part f)) (λ g. tt))
+      (λ g. (next-moved g, has-fields part f, leb-false (length kinds) (s .taken) e)) (λ g. tt))
       (λ f. tt))

@@ -38,21 +38,6 @@ module _ (t ws : List ℕ) (back : ℕ) (ks : List ℕ) (rs : Records) (c : Curs
   unfolding stepAt indexAfter
   turn-end h e g = rw (length-map ws (metOf t), le-ltb (c .index) (length ws) h, ← e) g
 
--- ---- what an answer tells of the step
-
--- the step that the code's turn t, taken from the state s, tells of, the next item having the index i
-abbrev pub Told : ℕ → steps.Step → State → ℕ → Turn → Type 0
-Told R st s i (turn.Goes n) = (st ≡ steps.moves (n .state)) × (n .index ≡ i)
-Told R st s i (turn.Covers a w n) = (p : steps.Placement) × (st ≡ steps.covers p (n .state)) × (offsetOf R p ≡ a) × (p .width ≡ w) × (n .index ≡ i)
-Told R st s i (turn.Refused why) = st ≡ steps.refused why
-Told R st s i (turn.Ends n) = (st ≡ steps.ends) × (n ≡ s .row + 1)
-
-pub told : (R : ℕ) (st : steps.Step) (s : State) (i : ℕ) → Told R st s i (onwardAnswer s i (stepAnswer R st))
-told R (steps.moves n) s i = (refl, refl)
-told R (steps.covers p n) s i = (p, refl, refl, refl, refl)
-told R (steps.refused why) s i = refl
-told R steps.ends s i = (refl, refl)
-
 -- ---- the walk from a cursor on
 
 abbrev pub walkAt : Sheet → Cursor → Trace
