@@ -11,11 +11,12 @@ use lib.Dec.{ltb}
 use lib.IntN.{ℤ, pos, negsuc, negℤ, natAbs, _*ℤ_, _-ℤ_, negℤ-negℤ, negℤ-+ℤ}
 use borrow.Author.Tests.{lt-ltb, le-ltb, ltb-true, ltb-false}
 use Rattle.number.specs.Limits.{largest}
-use Rattle.number.specs.Rounding.{Nearest, distance, roundedMagnitude, roundedUnits, roundingAnswer}
+use Rattle.number.specs.Magnitude.{negative}
+use Rattle.number.specs.Rounding.{Nearest, distance, roundedMagnitude, roundedUnits, tooLarge, roundingAnswer}
 use Rattle.number.specs.declared.Rounded.the-variants.{Units, TooLarge}
 use Rattle.number.specs.Promises.{RoundedIs, RoundedExact}
 use Rattle.number.proofs.PowerLaws.{ten-pos, ten-split, ten-half}
-use Rattle.number.proofs.SignLaws.{natAbs-neg}
+use Rattle.number.proofs.SignLaws.{natAbs-neg, natAbs-with}
 
 -- places added: the units are multiplied. (The power is a variable with its equation, as the code has it.)
 pub nearest-up : (u s d : ℕ) {p : ℕ} → s ≤ d → p ≡ 10 ^ (d - s) → roundedMagnitude u s d ≡ u * p
@@ -88,6 +89,34 @@ large-of u s d q = go (ltb largest (roundedMagnitude u s d)) refl q
     go false e r =
         let z : _≡_ {A = ℕ} 0 1 = cc in
         absurd (omega arith)
+
+-- ---- too large, by the signed units
+
+large-is : (u : ℤ) (s d : ℕ) → tooLarge u s d ≡ ltb largest (roundedMagnitude (natAbs u) s d)
+unfolding tooLarge roundedUnits
+large-is u s d = rw (natAbs-with (negative u) (roundedMagnitude (natAbs u) s d))
+
+-- no more places: never
+pub fewer-small : (u : ℤ) (s d : ℕ) → natAbs u ≤ largest → d ≤ s → false ≡ tooLarge u s d
+fewer-small u s d h l = sym (large-is u s d ∙ le-ltb largest (roundedMagnitude (natAbs u) s d) small)
+  where
+    small : roundedMagnitude (natAbs u) s d ≤ largest
+    small =
+        elim (decLt d s) [
+          | yes g ↦ rw (nearest-down (natAbs u) s d {p = 10 ^ (s - d)} g refl) (down-small (ten-pos (s - d)) h)
+          | no g ↦ rw (nearest-same (natAbs u) s d (omega arith)) h
+        ]
+
+-- more places: by the test
+pub more-large : (u : ℤ) (s d : ℕ) {m p : ℕ} → s < d → p ≡ 10 ^ (d - s) → 0 < p → m ≡ natAbs u → ltb (largest / p) m ≡ tooLarge u s d
+more-large u s d {m} {p} l e z n = go (ltb (largest / p) m) refl ∙ sym (large-is u s d)
+  where
+    v : roundedMagnitude (natAbs u) s d ≡ m * p
+    v = nearest-up (natAbs u) s d {p = p} (omega arith) e ∙ ap (λ k. k * p) (sym n)
+
+    go : (b : Bool) → ltb (largest / p) m ≡ b → b ≡ ltb largest (roundedMagnitude (natAbs u) s d)
+    go true q = rw v (sym (lt-ltb largest (m * p) (times-large z (ltb-true (largest / p) m q))))
+    go false q = rw v (sym (le-ltb largest (m * p) (times-small z (ltb-false (largest / p) m q))))
 
 -- ---- what it means
 
