@@ -9,3 +9,4 @@ pub mod AnswerLaws
 pub mod ItemLaws
 pub mod TurnLaws
 pub mod Turned
+pub mod Passes

@@ -8,7 +8,9 @@ use lib.Dec.{ltb}
 use lib.ListN.{length, drop, getD}
 use Rattle.format_grammar.specs.Items.{Field}
 use Rattle.format_grammar.specs.Met.{Met}
+use Rattle.format_grammar.specs.Promises.{AllMetWithin}
 use Rattle.format_words.specs.Words.{metOf}
+use Rattle.format_run.specs.Runs.{RunWords}
 use Rattle.list_elements.specs.Apart.{kindFrom}
 use Rattle.sheet_walk.specs.Steps as steps
 use Rattle.sheet_walk.specs.Walk.{Sheet}
@@ -75,6 +77,17 @@ sheetOf t words back kinds rs =
       kinds = map kindFrom kinds;
       records = rs;
     }
+
+-- a run of words with the characters t of its literals, whose items have their numbers within their ranges; a list's kinds; and
+-- records to walk in, of which no number is beyond a machine's
+pub record Loaded (t words kinds : List ℕ) (rs : Records) : Type 0 where
+  pub sound : RunWords (length t) words
+  pub within : AllMetWithin (map (metOf t) words)
+  pub few : length kinds < 2 ^ 32
+  pub some-record : 0 < rs .count
+  pub narrow : rs .width < 256
+  pub many : rs .count < 2 ^ 63
+  pub fits : rs .count * rs .width < 2 ^ 63
 
 -- the step of a cursor, and the index of the item after it, the part to return to beginning at `back`
 unfoldable pub stepAt : Sheet → Cursor → steps.Step
