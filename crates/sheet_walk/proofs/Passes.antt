@@ -98,5 +98,5 @@ module _ (t ws : List ℕ) (back : ℕ) (ks : List ℕ) (rs : Records) (l : Load
         length-map ws (metOf t),
         ← length-map ws (metOf []),
         fields-any t [] ws (n .index),
-        fields-any t [] ws (c .index)
+        fields-any t [] ws (c .index),
       ) at h

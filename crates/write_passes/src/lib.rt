@@ -1,1 +1,12 @@
-// The two passes of writing over the walk.
+// The two passes of writing over the walk: one checks and stores nothing, the other lays the records.
+pub mod checking;
+pub mod fields;
+pub mod laying;
+
+use sheet_walk::Refusal;
+
+// How the walk ends in writing.
+pub enum Ending {
+    Accepted { records: usize },
+    Refused(Refusal),
+}
