@@ -1,5 +1,7 @@
 // The list of elements, carried whole with its count.
-use number::LARGEST;
+pub mod apart;
+mod limits;
+
 ghost use mathlib.Core.Path.{_≡_};
 ghost use Rattle.list_elements.specs.Elements.{emptyList};
 
