@@ -2,7 +2,7 @@
 -- Assumes nothing.
 use mathlib.Core.List.{List, map}
 use Prim.Native.Nat.{ℕ}
-use lib.IntN.{ℤ, pos}
+use lib.IntN.{pos}
 use lib.ListN.{take, drop, replicate}
 use Rattle.list_elements.specs.declared.Text.{Text}
 use Rattle.list_elements.specs.declared.Value.{Value}

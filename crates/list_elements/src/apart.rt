@@ -1,4 +1,9 @@
 // A list taken apart into slices of numbers.
+use crate::KIND_BASE;
+use crate::KIND_DECIMAL;
+use crate::KIND_INTEGER;
+use crate::KIND_LOGICAL;
+use crate::KIND_TEXT;
 use crate::List;
 use crate::ListCheck;
 use crate::Value;
@@ -18,10 +23,10 @@ fn kind_number(v: Value) -> u64
     ensures { λ r. ⌜ r ≡ kindNumber v ⌝ }
 {
     match v {
-        Value::Integer(_) => 0,
-        Value::Decimal(_) => 1,
-        Value::Logical(_) => 2,
-        Value::Text(t) => (t.len as u64) * 4 + 3,
+        Value::Integer(_) => KIND_INTEGER,
+        Value::Decimal(_) => KIND_DECIMAL,
+        Value::Logical(_) => KIND_LOGICAL,
+        Value::Text(t) => (t.len as u64) * KIND_BASE + KIND_TEXT,
     }
 }
 

@@ -4,6 +4,7 @@ pub mod Covering
 pub mod Twice
 pub mod SpliceLaws
 pub mod Windows
+pub mod FieldRanges
 pub mod Promises
 pub mod AnswerLaws
 pub mod ItemLaws

@@ -1,0 +1,5 @@
+pub mod Accepted
+pub mod Starred
+pub mod Bytes
+pub mod Calls
+pub mod Promises

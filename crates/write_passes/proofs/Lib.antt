@@ -1,0 +1,3 @@
+pub mod ValueLaws
+pub mod PutLaws
+pub mod PlacedLaws
