@@ -6,7 +6,9 @@ use mathlib.Core.List.{List, map}
 use mathlib.Core.Logic.{_⊎_, inl, inr}
 use Prim.Native.Nat.{ℕ, zero, suc, _+_, _/_, _<_, _≤_}
 use native.Mathlib.Omega.{arith}
-use lib.IntN.{ℤ, pos, natAbs}
+use lib.IntN.{ℤ, pos, negsuc, natAbs}
+use mir.Val.{toZ, ofZ}
+use mir.Syntax.{w64}
 use lib.ListN.{length, getD, take, drop, length-map, List·getD-map}
 use Rattle.number.specs.Limits.{largest, mostPlaces}
 use Rattle.number.specs.Rounding.{roundedUnits, tooLarge}
@@ -26,6 +28,7 @@ use Rattle.list_elements.specs.Elements.{textBytes}
 use Rattle.list_elements.specs.Limits.{withinLimits}
 use Rattle.list_elements.specs.Apart.{kindNumber, amount, detail}
 use Rattle.list_elements.proofs.ApartLaws.{kinds-length, amounts-length, details-length, kind-at, amount-at, detail-at, good-at}
+use Rattle.list_elements.proofs.LimitLaws.{from-bits}
 use Rattle.list_elements.specs.declared.Value.{Value}
 use Rattle.sheet_walk.specs.Steps.{suits, isInteger, isDecimal, isLogical, isText}
 use Rattle.sheet_walk.specs.Promises.{Suited}
@@ -256,6 +259,16 @@ module _ {t area : List ℕ} {vs : List Value} {ks : List ℕ} {ms : List ℤ} {
 
     pub literal-characters : charactersOf area vs w (whatOf (metOf t word) i) ≡ take w (drop (firstOf word) t)
     literal-characters = rw (the-literal, ← literal-wide)
+
+-- ---- signed numbers reach a callee as bits
+
+pub as-bits : (z : ℤ) → natAbs z ≤ largest → toZ w64 (ofZ w64 z) ≡ z
+as-bits (pos n) h = from-bits (pos n) (omega arith)
+as-bits (negsuc n) h = from-bits (negsuc n) (omega arith)
+
+pub logical-bits : (z : ℤ) (b : Bool) → z ≡ cond b (pos 1) (pos 0) → toZ w64 (ofZ w64 z) ≡ cond b (pos 1) (pos 0)
+logical-bits z true e = rw e
+logical-bits z false e = rw e
 
 -- ---- the answer of writing a decimal that is not too large
 

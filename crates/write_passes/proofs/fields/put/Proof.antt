@@ -1,3 +1,13 @@
+use mathlib.Core.Path.{_≡_, refl, sym, ap, _∙_}
+use mathlib.Core.Logic.{_⊎_, inl, inr}
+use native.Mathlib.Omega.{arith}
+use Prim.Native.Nat.{ℕ, zero, suc, _+_, _/_, _<_, _≤_}
+use lib.IntN.{pos}
+use lib.ListN.{length, getD}
+use Rattle.number.specs.Rounding.{tooLarge}
+use Rattle.format_words.specs.Words.{secondOf}
+use Rattle.write_passes.specs.Placed.{logicalOf, valueAt}
+use Rattle.write_passes.proofs.PutLaws.{I-amount, I-small, I-starred, I-characters, F-amount, F-detail, F-small, F-places, F-wanted, F-large, F-starred, F-characters, L-amount, L-some, L-is, L-starred, L-characters, text-put, literal-inside, literal-starred, literal-characters, as-bits, logical-bits, put-stars, put-bytes}
 use borrow.Author.Needs.{needs}
 use Rattle.write_passes.proofs.fields.put.Statement.{statement}
 use Rattle.write_passes.proofs.fields.put.Tie as tie
@@ -12,17 +22,26 @@ use Rattle.write_passes.proofs.fields.is_starred.Reads as is-starred-re
 use Rattle.write_passes.proofs.fields.second.Reads as second-reads
 use Rattle.write_passes.proofs.fields.truth.Reads as truth-reads
 
+-- the kind of A or Aw
+text-kind : (n : ℕ) → ((Unit {0} × (n ≡ 0 → ⊥)) × (n ≡ 1 → ⊥)) × (n ≡ 2 → ⊥) → n < 5 → (n ≡ 3) ⊎ (n ≡ 4)
+text-kind zero r h = absurd (r .0 .0 .1 refl)
+text-kind (suc zero) r h = absurd (r .0 .1 refl)
+text-kind (suc (suc zero)) r h = absurd (r .1 refl)
+text-kind (suc (suc (suc zero))) r h = inl refl
+text-kind (suc (suc (suc (suc zero)))) r h = inr refl
+text-kind (suc (suc (suc (suc (suc n))))) r h = absurd (omega arith)
+
 -- src/fields.rt:81:49
 mul-write-integer : tie.Need-mul-write-integer
-mul-write-integer c = ?
+mul-write-integer c = let a = c .before .before .before .before .before .before .before in let h : a .args .i < length (a .args .amounts .now) = I-amount (a .pre .1 .placed .placeable) (c .before .match .keys1) in search needs
 
 -- src/fields.rt:81:49
 shared-slice-copy-out-write-integer : tie.Need-shared-slice-copy-out-write-integer
-shared-slice-copy-out-write-integer c = ?
+shared-slice-copy-out-write-integer c = I-amount (c .before .before .before .before .before .before .before .pre .1 .placed .placeable) (c .before .match .keys1)
 
 -- src/fields.rt:81:19
 write-integer-requires : tie.Need-write-integer-requires
-write-integer-requires c κs = ?
+write-integer-requires c κs = let a = c .before .before .before .before .before .before .before .before in let s = I-small (a .pre .1 .placed .placeable) (c .before .before .match .keys1) in (a .pre .0, rw (as-bits (getD (a .args .amounts .now) (a .args .i) (pos 0)) s) s)
 
 -- src/fields.rt:82:60
 second-requires : tie.Need-second-requires
@@ -30,23 +49,23 @@ second-requires c κs = search needs
 
 -- src/fields.rt:82:74
 mul-write-decimal : tie.Need-mul-write-decimal
-mul-write-decimal c = ?
+mul-write-decimal c = let a = c .before .before .before .before .before .before .before .before in let h : a .args .i < length (a .args .amounts .now) = F-amount (a .pre .1 .placed .placeable) (c .before .before .match .keys2) in search needs
 
 -- src/fields.rt:82:74
 shared-slice-copy-out-write-decimal : tie.Need-shared-slice-copy-out-write-decimal
-shared-slice-copy-out-write-decimal c = ?
+shared-slice-copy-out-write-decimal c = F-amount (c .before .before .before .before .before .before .before .before .pre .1 .placed .placeable) (c .before .before .match .keys2)
 
 -- src/fields.rt:82:86
 mul-write-decimal-2 : tie.Need-mul-write-decimal-2
-mul-write-decimal-2 c = ?
+mul-write-decimal-2 c = let a = c .before .before .before .before .before .before .before .before .before in let h : a .args .i < length (a .args .details .now) = F-detail (a .pre .1 .placed .placeable) (c .before .before .before .match .keys2) in search needs
 
 -- src/fields.rt:82:86
 shared-slice-read-write-decimal : tie.Need-shared-slice-read-write-decimal
-shared-slice-read-write-decimal c = ?
+shared-slice-read-write-decimal c = F-detail (c .before .before .before .before .before .before .before .before .before .before .pre .1 .placed .placeable) (c .before .before .before .before .match .keys2)
 
 -- src/fields.rt:82:30
 write-decimal-requires : tie.Need-write-decimal-requires
-write-decimal-requires c κs = ?
+write-decimal-requires c κs = let a = c .before .before .before .before .before .before .before .before .before .before in let p = a .pre .1 .placed .placeable in let k = c .before .before .before .before .match .keys2 in let s = F-small p k in (a .pre .0, rw (c .before .before .second .ensures) (F-wanted p k), rw (as-bits (getD (a .args .amounts .now) (a .args .i) (pos 0)) s) s, F-places p k)
 
 -- src/fields.rt:82:19
 is-starred-requires : tie.Need-is-starred-requires
@@ -54,11 +73,11 @@ is-starred-requires c κs = search needs
 
 -- src/fields.rt:84:49
 mul-truth : tie.Need-mul-truth
-mul-truth c = ?
+mul-truth c = let a = c .before .before .before .before .before .before .before in let h : a .args .i < length (a .args .amounts .now) = L-amount (a .pre .1 .placed .placeable) (c .before .match .keys3) in search needs
 
 -- src/fields.rt:84:49
 shared-slice-copy-out-truth : tie.Need-shared-slice-copy-out-truth
-shared-slice-copy-out-truth c = ?
+shared-slice-copy-out-truth c = L-amount (c .before .before .before .before .before .before .before .pre .1 .placed .placeable) (c .before .match .keys3)
 
 -- src/fields.rt:84:43
 truth-requires : tie.Need-truth-requires
@@ -66,31 +85,31 @@ truth-requires c κs = search needs
 
 -- src/fields.rt:84:13
 write-logical-requires : tie.Need-write-logical-requires
-write-logical-requires c κs = ?
+write-logical-requires c κs = let a = c .before .before .before .before .before .before .before .before .before in (a .pre .0, L-some (a .pre .1 .placed .placeable) (c .before .before .before .match .keys3))
 
 -- src/fields.rt:93:17
 mul-write-text : tie.Need-mul-write-text
-mul-write-text c = ?
+mul-write-text c = let a = c .before .before .before .before .before .before .before .before in let h : a .args .i < length (a .args .details .now) = text-put (a .pre .1 .placed .placeable) (text-kind _ (c .before .before .match .rest) (c .before .if1 .taken)) .in-details in search needs
 
 -- src/fields.rt:93:17
 shared-slice-read-write-text : tie.Need-shared-slice-read-write-text
-shared-slice-read-write-text c = ?
+shared-slice-read-write-text c = text-put (c .before .before .before .before .before .before .before .before .before .pre .1 .placed .placeable) (text-kind _ (c .before .before .before .match .rest) (c .before .before .if1 .taken)) .in-details
 
 -- src/fields.rt:94:18
 mul-write-text-2 : tie.Need-mul-write-text-2
-mul-write-text-2 c = ?
+mul-write-text-2 c = let a = c .before .before .before .before .before .before .before .before .before in let h : a .args .i < length (a .args .kinds .now) = text-put (a .pre .1 .placed .placeable) (text-kind _ (c .before .before .before .match .rest) (c .before .before .if1 .taken)) .in-kinds in search needs
 
 -- src/fields.rt:94:18
 shared-slice-read-write-text-2 : tie.Need-shared-slice-read-write-text-2
-shared-slice-read-write-text-2 c = ?
+shared-slice-read-write-text-2 c = text-put (c .before .before .before .before .before .before .before .before .before .before .pre .1 .placed .placeable) (text-kind _ (c .before .before .before .before .match .rest) (c .before .before .before .if1 .taken)) .in-kinds
 
 -- src/fields.rt:88:13
 write-text-requires : tie.Need-write-text-requires
-write-text-requires c κs = ?
+write-text-requires c κs = let a = c .before .before .before .before .before .before .before .before .before .before in (a .pre .0, text-put (a .pre .1 .placed .placeable) (text-kind _ (c .before .before .before .before .match .rest) (c .before .before .before .if1 .taken)) .inside)
 
 -- src/fields.rt:99:13
 copy-requires : tie.Need-copy-requires
-copy-requires c κs = ?
+copy-requires c κs = let a = c .before .before .before .before .before .before .before .before in (a .pre .0, literal-inside (a .pre .1 .placed .placeable) (c .before .if1 .left))
 
 -- src/fields.rt:64:1
 same-length : tie.Need-same-length
@@ -98,7 +117,7 @@ same-length c = search needs
 
 -- src/fields.rt:64:1
 returns : tie.Need-returns
-returns c = ?
+returns c = let a = c .before .before .before .before .before .before .before .before .before .before .before in let k = c .before .before .before .before .before .match .keys1 in ((λ vs p. let s = as-bits (getD (a .args .amounts .now) (a .args .i) (pos 0)) (I-small (p .placeable) k) in rw s at (c .before .before .write-integer .ensures .0) ∙ sym (I-starred (p .placeable) k)), (λ vs p. let s = as-bits (getD (a .args .amounts .now) (a .args .i) (pos 0)) (I-small (p .placeable) k) in rw (I-characters (p .placeable) k) (rw s at (c .before .before .write-integer .ensures .1))))
 
 -- src/fields.rt:64:1
 same-length-2 : tie.Need-same-length-2
@@ -106,7 +125,22 @@ same-length-2 c = search needs
 
 -- src/fields.rt:64:1
 returns-2 : tie.Need-returns-2
-returns-2 c = ?
+returns-2 c =
+    let a = c .before .before .before .before .before .before .before .before .before .before .before .before .before .before in
+    let k = c .before .before .before .before .before .before .before .before .match .keys2 in
+    let u = getD (a .args .amounts .now) (a .args .i) (pos 0) in
+    let d = c .before .before .before .before .before .before .second .ensures in
+    (
+      (λ vs p.
+        rw (c .is-starred .ensures, rw (as-bits u (F-small (p .placeable) k), d) at (c .before .before .before .write-decimal .ensures .0))
+        (put-stars (a .args .width) (secondOf (a .args .word)) u (getD (a .args .details .now) (a .args .i) 0) (sym (F-large (p .placeable) k) ∙ p .small)
+        ∙ sym (F-starred (p .placeable) k))),
+      (λ vs p.
+        rw (F-characters (p .placeable) k)
+        ((rw (as-bits u (F-small (p .placeable) k), d) at (c .before .before .before .write-decimal .ensures .1))
+        ∙ put-bytes (a .args .width) (secondOf (a .args .word)) u (getD (a .args .details .now) (a .args .i) 0) (sym (F-large (p .placeable) k) ∙ p .small)
+        (a .args .dst .now) (a .args .at)))
+    )
 
 -- src/fields.rt:64:1
 same-length-3 : tie.Need-same-length-3
@@ -114,7 +148,16 @@ same-length-3 c = search needs
 
 -- src/fields.rt:64:1
 returns-3 : tie.Need-returns-3
-returns-3 c = ?
+returns-3 c =
+    let a = c .before .before .before .before .before .before .before .before .before .before .before .before in
+    let k = c .before .before .before .before .before .before .match .keys3 in
+    let u = getD (a .args .amounts .now) (a .args .i) (pos 0) in
+    (
+      (λ vs p. sym (L-starred (p .placeable) k)),
+      (λ vs p.
+        let e = c .before .before .before .truth .ensures (logicalOf (valueAt vs (a .args .i))) (logical-bits u (logicalOf (valueAt vs (a .args .i))) (L-is (p .placeable) k)) in
+        rw (L-characters (p .placeable) k) (rw e at (c .before .before .write-logical .ensures)))
+    )
 
 -- src/fields.rt:64:1
 same-length-4 : tie.Need-same-length-4
@@ -122,7 +165,12 @@ same-length-4 c = search needs
 
 -- src/fields.rt:64:1
 returns-4 : tie.Need-returns-4
-returns-4 c = ?
+returns-4 c =
+    let k = text-kind _ (c .before .before .before .before .before .before .before .match .rest) (c .before .before .before .before .before .before .if1 .taken) in
+    (
+      (λ vs p. sym (text-put (p .placeable) k .unstarred)),
+      (λ vs p. rw (text-put (p .placeable) k .is) (c .before .before .write-text .ensures))
+    )
 
 -- src/fields.rt:64:1
 same-length-5 : tie.Need-same-length-5
@@ -130,7 +178,12 @@ same-length-5 c = search needs
 
 -- src/fields.rt:64:1
 returns-5 : tie.Need-returns-5
-returns-5 c = ?
+returns-5 c =
+    let k = c .before .before .before .before .if1 .left in
+    (
+      (λ vs p. sym (literal-starred (p .placeable) k)),
+      (λ vs p. rw (literal-characters (p .placeable) k) (c .before .before .copy .ensures))
+    )
 
 pub put-spec : {M : Type 1} → statement M
 put-spec =
