@@ -27,7 +27,7 @@ use Rattle.sheet_walk.proofs.Returns.{end-is}
 use Rattle.sheet_walk.proofs.Covering.{Stands, moved-stands, few-covered}
 use Rattle.sheet_walk.proofs.TurnLaws.{walkAt, walk-step}
 
-within-at : (xs : List Met) (i : ℕ) → AllMetWithin xs → MetWithin (getD xs i Met.slash)
+pub within-at : (xs : List Met) (i : ℕ) → AllMetWithin xs → MetWithin (getD xs i Met.slash)
 within-at [] i h = tt
 within-at (x ∷ xs) zero h = h .0
 within-at (x ∷ xs) (suc i) h = within-at xs i (h .1)

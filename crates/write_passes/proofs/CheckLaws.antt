@@ -1,0 +1,100 @@
+-- The checking pass: what holds at each turn.
+-- Assumes nothing.
+use mathlib.Core.Path.{_≡_, refl, sym, ap, subst, _∙_}
+use mathlib.Core.Bool.{true, false}
+use mathlib.Core.List.{List, map}
+use Prim.Native.Nat.{ℕ, _<_}
+use native.Mathlib.Omega.{arith}
+use lib.IntN.{ℤ}
+use lib.ListN.{length, getD, length-map}
+use Rattle.format_grammar.specs.Met.{Met}
+use Rattle.format_grammar.specs.Promises.{MetWithin, AllMetWithin}
+use Rattle.format_words.specs.Words.{metOf}
+use Rattle.list_elements.specs.Elements.{Kind, kindOf}
+use Rattle.list_elements.specs.Apart.{kindFrom}
+use Rattle.list_elements.proofs.ApartLaws.{kinds-from}
+use Rattle.list_elements.specs.declared.Value.{Value}
+use Rattle.sheet_walk.specs.Steps.{What, element, literal, Placement}
+use Rattle.sheet_walk.specs.Walk.{Trace, put, done, stopped, walk}
+use Rattle.sheet_walk.specs.Turns.{sheetOf}
+use Rattle.sheet_walk.specs.declared.Refusal.the-variants.{TooLarge}
+use Rattle.sheet_walk.specs.declared.Records.{Records}
+use Rattle.sheet_walk.specs.declared.State.{State}
+use Rattle.sheet_walk.specs.declared.Cursor.{Cursor}
+use Rattle.sheet_walk.proofs.StepLaws.{CoveredBy, Covered}
+use Rattle.sheet_walk.proofs.Covering.{Stands}
+use Rattle.sheet_walk.proofs.ItemLaws.{item-at, word-at}
+use Rattle.sheet_walk.proofs.TurnLaws.{walkAt}
+use Rattle.sheet_walk.proofs.Turned.{itemAt, within-at}
+use Rattle.write_passes.specs.Placed.{Judged, refused, judgedAt, judged}
+use Rattle.write_passes.specs.Passes.{whatOf, whatTooLarge, Covering, Placeable, Ready}
+use Rattle.write_passes.proofs.ValueLaws.{no-way}
+
+-- ---- what covers columns, by its item
+
+covered-what : (kinds : List Kind) (x : Met) (s : State) (w : ℕ) (what : What) → CoveredBy kinds x s w what → what ≡ whatOf x (s .taken)
+covered-what kinds x s w (element i f) by = rw (by .0, by .1)
+covered-what kinds x s w (literal cs) by = rw (by .0)
+
+covered-covering : (kinds : List Kind) (x : Met) (s : State) (w : ℕ) (what : What) → CoveredBy kinds x s w what → Covering kinds x (s .taken) w
+covered-covering kinds x s w (element i f) by = rw (by .0, ← by .1) (by .2)
+covered-covering kinds x s w (literal cs) by = rw (by .0) (by .1)
+
+module _ {t area : List ℕ} {vs : List Value} {ws ks : List ℕ} {ms : List ℤ} {ds : List ℕ} {rs : Records} (back : ℕ) (r : Ready t area vs ws ks ms ds rs) where
+  module _ (c : Cursor) (p : Placement) (n : State) (l : c .index < length (map (metOf t) ws))
+      (d : Covered (map kindFrom ks) rs (itemAt (sheetOf t ws back ks rs) c) (c .state) p n) where
+    pub in-words : c .index < length ws
+    in-words = let e : length (map (metOf t) ws) ≡ length ws = length-map ws (metOf t) in omega (arith, l)
+
+    word-is : itemAt (sheetOf t ws back ks rs) c ≡ metOf t (getD ws (c .index) 0)
+    word-is = item-at t ws (c .index) Met.slash in-words
+
+    pub what-is : p .what ≡ whatOf (metOf t (getD ws (c .index) 0)) (c .state .taken)
+    what-is =
+        covered-what (map kindFrom ks) (itemAt (sheetOf t ws back ks rs) c) (c .state) (p .width) (p .what) (d .by)
+        ∙ ap (λ x. whatOf x (c .state .taken)) word-is
+
+    pub placeable : Placeable t area vs ks ms ds (getD ws (c .index) 0) (c .state .taken) (p .width)
+    placeable =
+        record {
+          sound = word-at (length t) ws (c .index) (r .loaded .sound) in-words;
+          within = subst MetWithin word-is (within-at (map (metOf t) ws) (c .index) (r .loaded .within));
+          apart = r .apart;
+          good = r .good;
+          covers =
+            subst (λ x. Covering (map kindOf vs) x (c .state .taken) (p .width)) word-is
+            (subst (λ z. Covering z (itemAt (sheetOf t ws back ks rs) c) (c .state .taken) (p .width)) (kinds-from (r .apart))
+            (covered-covering (map kindFrom ks) (itemAt (sheetOf t ws back ks rs) c) (c .state) (p .width) (p .what) (d .by)));
+        }
+
+-- ---- the check of one value
+
+judged-large : (vs : List Value) (x : Met) (i : ℕ) (rest : Judged) → whatTooLarge vs (whatOf x i) ≡ true → judgedAt vs (whatOf x i) rest ≡ refused (TooLarge i)
+judged-large vs (Met.field f) i rest e = rw e
+judged-large vs (Met.X n) i rest e = no-way e
+judged-large vs (Met.T n) i rest e = no-way e
+judged-large vs Met.slash i rest e = no-way e
+judged-large vs (Met.literal cs) i rest e = no-way e
+
+judged-small : (vs : List Value) (x : Met) (i : ℕ) (rest : Judged) → whatTooLarge vs (whatOf x i) ≡ false → judgedAt vs (whatOf x i) rest ≡ rest
+judged-small vs (Met.field f) i rest e = rw e
+judged-small vs (Met.X n) i rest e = refl
+judged-small vs (Met.T n) i rest e = refl
+judged-small vs Met.slash i rest e = refl
+judged-small vs (Met.literal cs) i rest e = refl
+
+module _ (vs : List Value) (p : Placement) (rest : Trace) (x : Met) (i : ℕ) (e : p .what ≡ whatOf x i) where
+  pub put-large : whatTooLarge vs (whatOf x i) ≡ true → judged vs (put p rest) ≡ refused (TooLarge i)
+  unfolding judged
+  put-large g = rw e (judged-large vs x i (judged vs rest) g)
+
+  pub put-small : whatTooLarge vs (whatOf x i) ≡ false → judged vs (put p rest) ≡ judged vs rest
+  unfolding judged
+  put-small g = rw e (judged-small vs x i (judged vs rest) g)
+
+-- ---- the invariant
+
+-- the walk stands well, and what is left of it is judged as the whole
+pub record Checking (t : List ℕ) (vs : List Value) (ws : List ℕ) (back : ℕ) (ks : List ℕ) (rs : Records) (c : Cursor) : Type 0 where
+  pub stands : Stands (sheetOf t ws back ks rs) (c .state)
+  pub left : judged vs (walkAt (sheetOf t ws back ks rs) c) ≡ judged vs (walk (sheetOf t ws back ks rs))
