@@ -62,9 +62,9 @@ module _ {t area : List ℕ} {vs : List Value} {ws ks : List ℕ} {ms : List ℤ
           apart = r .apart;
           good = r .good;
           covers =
-            subst (λ x. Covering (map kindOf vs) x (c .state .taken) (p .width)) word-is
-            (subst (λ z. Covering z (itemAt (sheetOf t ws back ks rs) c) (c .state .taken) (p .width)) (kinds-from (r .apart))
-            (covered-covering (map kindFrom ks) (itemAt (sheetOf t ws back ks rs) c) (c .state) (p .width) (p .what) (d .by)));
+              subst (λ x. Covering (map kindOf vs) x (c .state .taken) (p .width)) word-is
+              (subst (λ z. Covering z (itemAt (sheetOf t ws back ks rs) c) (c .state .taken) (p .width)) (kinds-from (r .apart))
+              (covered-covering (map kindFrom ks) (itemAt (sheetOf t ws back ks rs) c) (c .state) (p .width) (p .what) (d .by)));
         }
 
 -- ---- the check of one value

@@ -230,12 +230,11 @@ module _ {t area : List ℕ} {vs : List Value} {ks : List ℕ} {ms : List ℤ} {
 
   -- a literal: no other item covers columns
   pub is-covering : (kindOf word ≡ 5 → ⊥) × (kindOf word ≡ 6 → ⊥) × (kindOf word ≡ 7 → ⊥)
-  is-covering =
-      (
-        (λ e. subst (λ x. Covering (map elements.kindOf vs) x i w) (is-X t word e) (p .covers)),
-        (λ e. subst (λ x. Covering (map elements.kindOf vs) x i w) (is-T t word e) (p .covers)),
-        (λ e. subst (λ x. Covering (map elements.kindOf vs) x i w) (is-slash t word e) (p .covers))
-      )
+  is-covering = (
+    (λ e. subst (λ x. Covering (map elements.kindOf vs) x i w) (is-X t word e) (p .covers)),
+    (λ e. subst (λ x. Covering (map elements.kindOf vs) x i w) (is-T t word e) (p .covers)),
+    (λ e. subst (λ x. Covering (map elements.kindOf vs) x i w) (is-slash t word e) (p .covers)),
+  )
 
   module _ (k : 4 < kindOf word) where
     high : 7 < kindOf word

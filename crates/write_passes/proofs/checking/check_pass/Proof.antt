@@ -27,7 +27,6 @@ Inv-loop words back kinds amounts details rs part c₀ c = ((t area : List ℕ) 
 abbrev μ-loop : tie.MeasureT-loop
 μ-loop words back kinds amounts details rs part c₀ c = wordTurns words kinds c
 
-
 abbrev start : tie.After-advance Inv-loop μ-loop → tie.Start Inv-loop μ-loop
 start c = c .before .before .before .before .before .before
 

@@ -129,17 +129,16 @@ returns-2 c =
     let a = c .before .before .before .before .before .before .before .before .before .before .before .before .before .before in
     let k = c .before .before .before .before .before .before .before .before .match .keys2 in
     let u = getD (a .args .amounts .now) (a .args .i) (pos 0) in
-    let d = c .before .before .before .before .before .before .second .ensures in
-    (
+    let d = c .before .before .before .before .before .before .second .ensures in (
       (λ vs p.
-        rw (c .is-starred .ensures, rw (as-bits u (F-small (p .placeable) k), d) at (c .before .before .before .write-decimal .ensures .0))
-        (put-stars (a .args .width) (secondOf (a .args .word)) u (getD (a .args .details .now) (a .args .i) 0) (sym (F-large (p .placeable) k) ∙ p .small)
-        ∙ sym (F-starred (p .placeable) k))),
+          rw (c .is-starred .ensures, rw (as-bits u (F-small (p .placeable) k), d) at (c .before .before .before .write-decimal .ensures .0))
+          (put-stars (a .args .width) (secondOf (a .args .word)) u (getD (a .args .details .now) (a .args .i) 0) (sym (F-large (p .placeable) k) ∙ p .small)
+          ∙ sym (F-starred (p .placeable) k))),
       (λ vs p.
-        rw (F-characters (p .placeable) k)
-        ((rw (as-bits u (F-small (p .placeable) k), d) at (c .before .before .before .write-decimal .ensures .1))
-        ∙ put-bytes (a .args .width) (secondOf (a .args .word)) u (getD (a .args .details .now) (a .args .i) 0) (sym (F-large (p .placeable) k) ∙ p .small)
-        (a .args .dst .now) (a .args .at)))
+          rw (F-characters (p .placeable) k)
+          ((rw (as-bits u (F-small (p .placeable) k), d) at (c .before .before .before .write-decimal .ensures .1))
+          ∙ put-bytes (a .args .width) (secondOf (a .args .word)) u (getD (a .args .details .now) (a .args .i) 0) (sym (F-large (p .placeable) k) ∙ p .small)
+          (a .args .dst .now) (a .args .at))),
     )
 
 -- src/fields.rt:64:1
@@ -151,12 +150,11 @@ returns-3 : tie.Need-returns-3
 returns-3 c =
     let a = c .before .before .before .before .before .before .before .before .before .before .before .before in
     let k = c .before .before .before .before .before .before .match .keys3 in
-    let u = getD (a .args .amounts .now) (a .args .i) (pos 0) in
-    (
+    let u = getD (a .args .amounts .now) (a .args .i) (pos 0) in (
       (λ vs p. sym (L-starred (p .placeable) k)),
       (λ vs p.
-        let e = c .before .before .before .truth .ensures (logicalOf (valueAt vs (a .args .i))) (logical-bits u (logicalOf (valueAt vs (a .args .i))) (L-is (p .placeable) k)) in
-        rw (L-characters (p .placeable) k) (rw e at (c .before .before .write-logical .ensures)))
+          let e = c .before .before .before .truth .ensures (logicalOf (valueAt vs (a .args .i))) (logical-bits u (logicalOf (valueAt vs (a .args .i))) (L-is (p .placeable) k)) in
+          rw (L-characters (p .placeable) k) (rw e at (c .before .before .write-logical .ensures))),
     )
 
 -- src/fields.rt:64:1
@@ -166,10 +164,9 @@ same-length-4 c = search needs
 -- src/fields.rt:64:1
 returns-4 : tie.Need-returns-4
 returns-4 c =
-    let k = text-kind _ (c .before .before .before .before .before .before .before .match .rest) (c .before .before .before .before .before .before .if1 .taken) in
-    (
+    let k = text-kind _ (c .before .before .before .before .before .before .before .match .rest) (c .before .before .before .before .before .before .if1 .taken) in (
       (λ vs p. sym (text-put (p .placeable) k .unstarred)),
-      (λ vs p. rw (text-put (p .placeable) k .is) (c .before .before .write-text .ensures))
+      (λ vs p. rw (text-put (p .placeable) k .is) (c .before .before .write-text .ensures)),
     )
 
 -- src/fields.rt:64:1
@@ -179,10 +176,9 @@ same-length-5 c = search needs
 -- src/fields.rt:64:1
 returns-5 : tie.Need-returns-5
 returns-5 c =
-    let k = c .before .before .before .before .if1 .left in
-    (
+    let k = c .before .before .before .before .if1 .left in (
       (λ vs p. sym (literal-starred (p .placeable) k)),
-      (λ vs p. rw (literal-characters (p .placeable) k) (c .before .before .copy .ensures))
+      (λ vs p. rw (literal-characters (p .placeable) k) (c .before .before .copy .ensures)),
     )
 
 pub put-spec : {M : Type 1} → statement M
