@@ -3,3 +3,5 @@ pub mod Starred
 pub mod Bytes
 pub mod Calls
 pub mod Promises
+pub mod WriteLaws
+pub mod Whole

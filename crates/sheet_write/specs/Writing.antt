@@ -86,9 +86,27 @@ writeAnswer R format l area buffer = answerOf (values l) (writing R format l are
 abbrev pub writeBuffer : ℕ → List ℕ → carried.List → List ℕ → List ℕ → List ℕ
 writeBuffer R format l area buffer = bufferOf R area (values l) buffer (writing R format l area (length buffer))
 
--- ---- document 01's number, place, records and starred of each answer: 'A refusal carries number and place, and besides them
--- zero records, zero starred'; 0 where an accepted writing has no number and place
+-- ---- document 01's number, place, records and starred: 'A refusal carries number and place, and besides them zero records,
+-- zero starred'; 0 where an accepted writing has no number and place
 
+abbrev pub writingNumber : Writing → ℕ
+writingNumber (accepts t n) = 0
+writingNumber (refuses why) = refusalNumber why
+
+abbrev pub writingPlace : Writing → ℕ
+writingPlace (accepts t n) = 0
+writingPlace (refuses why) = refusalPlace why
+
+-- 'Records reached, the first included, count as written.'
+abbrev pub writingRecords : Writing → ℕ
+writingRecords (accepts t n) = n
+writingRecords (refuses why) = 0
+
+abbrev pub writingStarred : List Value → Writing → ℕ
+writingStarred vs (accepts t n) = starredIn vs t
+writingStarred vs (refuses why) = 0
+
+-- the same of each answer
 abbrev pub answerNumber : Written → ℕ
 answerNumber (answer.Accepted n k) = 0
 answerNumber (answer.Refused why) = refusalNumber why

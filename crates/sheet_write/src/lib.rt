@@ -1,4 +1,9 @@
 // Writing: the public call.
+mod records;
+mod runs;
+mod texts;
+pub mod write;
+
 use sheet_walk::Refusal;
 
 // What writing answers.

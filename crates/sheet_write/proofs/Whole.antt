@@ -1,0 +1,105 @@
+-- The public call, from what its parts do.
+-- Assumes nothing.
+use mathlib.Core.Path.{_≡_, refl, sym, ap, subst, _∙_}
+use mathlib.Core.List.{List}
+use Prim.Native.Nat.{ℕ, _<_, _≤_}
+use native.Mathlib.Omega.{arith}
+use borrow.Author.Tests.{le-leb, lt-leb}
+use lib.IntN.{ℤ}
+use lib.ListN.{length, take}
+use lib.Seq.{length-take-le}
+use Rattle.format_grammar.specs.Check.{outcome}
+use Rattle.list_elements.specs.Elements.{values}
+use Rattle.list_elements.specs.Limits.{listCheck}
+use Rattle.list_elements.specs.Apart.{Apart}
+use Rattle.list_elements.proofs.ApartLaws.{bad-not-good, check-good}
+use Rattle.list_elements.specs.declared.Value.{Value}
+use Rattle.list_elements.specs.declared.List as carried
+use Rattle.list_elements.specs.declared.ListCheck.{ListCheck}
+use Rattle.list_elements.specs.declared.ListCheck.the-variants.{Good, Bad}
+use Rattle.sheet_walk.specs.declared.Refusal.the-variants.{RecordWidth}
+use Rattle.sheet_write.specs.Writing.{Writing, accepts, refuses, checkFormat, writingOf, writing, answerOf, writeAnswer, writeBuffer, writingNumber, writingPlace, writingRecords, writingStarred, answerNumber, answerPlace, answerRecords, answerStarred}
+use Rattle.sheet_write.specs.Parts.{usableCount, Listed, ListedIf, Wrote}
+use Rattle.sheet_write.specs.declared.Written.{Written}
+use Rattle.sheet_write.specs.declared.Written.the-variants as answer
+
+-- ---- row 1
+
+module _ (R : ℕ) (format : List ℕ) (check : ListCheck) (vs : List Value) {area : List ℕ} (before : List ℕ) where
+  pub width-none : R < 1 → Wrote R area vs before (writingOf R format check vs (length before)) (answer.Refused RecordWidth) before
+  unfolding writingOf
+  width-none h = rw (lt-leb 1 R h) (record { answers = refl; bytes = refl })
+
+  pub width-over : 1 ≤ R → 255 < R → Wrote R area vs before (writingOf R format check vs (length before)) (answer.Refused RecordWidth) before
+  unfolding writingOf
+  width-over l h = rw (le-leb 1 R l, lt-leb R 255 h) (record { answers = refl; bytes = refl })
+
+  pub width-right : 1 ≤ R → R ≤ 255 → (k : ListCheck) → k ≡ check → {r : Written} {after : List ℕ}
+      → Wrote R area vs before (checkFormat R (outcome format) k vs (length before)) r after
+      → Wrote R area vs before (writingOf R format check vs (length before)) r after
+  unfolding writingOf
+  width-right l h k e w = rw (le-leb 1 R l, le-leb R 255 h, ← e) w
+
+-- ---- the list taken apart
+
+module _ (area : List ℕ) (l : carried.List) (check : ListCheck) (is : check ≡ listCheck area l) where
+  pub usable-few : usableCount check (l .count) ≤ 64
+  usable-few = go check refl
+    where
+      go : (k : ListCheck) → check ≡ k → usableCount k (l .count) ≤ 64
+      go Good e = check-good area l (sym is ∙ e) .1
+      go (Bad p) e = omega arith
+
+  module _ (kinds : List ℕ) (amounts : List ℤ) (details : List ℕ) (long : length kinds ≡ 64)
+      (apart : check ≡ Good → Apart (values l) (take (l .count) kinds) (take (l .count) amounts) (take (l .count) details)) where
+    pub listed-if : {n : ℕ} → n ≡ usableCount check (l .count) → ListedIf check area (values l) (take n kinds) (take n amounts) (take n details)
+    listed-if {n} e =
+        record {
+          if-good = λ g.
+              let c : n ≡ l .count = e ∙ ap (λ k. usableCount k (l .count)) g in
+              let f = check-good area l (sym is ∙ g) in
+              let m : length (take (l .count) kinds) ≡ l .count = length-take-le (l .count) kinds (omega (arith, f .1)) in
+              rw c (record { apart = apart g; good = f .0; few = omega (arith, f .1, m) });
+        }
+
+-- ---- the answer's number, place, records and starred
+
+number-of : (vs : List Value) (w : Writing) → answerNumber (answerOf vs w) ≡ writingNumber w
+number-of vs (accepts t n) = refl
+number-of vs (refuses why) = refl
+
+place-of : (vs : List Value) (w : Writing) → answerPlace (answerOf vs w) ≡ writingPlace w
+place-of vs (accepts t n) = refl
+place-of vs (refuses why) = refl
+
+records-of : (vs : List Value) (w : Writing) → answerRecords (answerOf vs w) ≡ writingRecords w
+records-of vs (accepts t n) = refl
+records-of vs (refuses why) = refl
+
+starred-of : (vs : List Value) (w : Writing) → answerStarred (answerOf vs w) ≡ writingStarred vs w
+starred-of vs (accepts t n) = refl
+starred-of vs (refuses why) = refl
+
+-- all that the public call promises
+module _ (R : ℕ) (format : List ℕ) (l : carried.List) (area before : List ℕ) where
+  abbrev became : Writing
+  became = writing R format l area (length before)
+
+  pub finished : {r : Written} {after : List ℕ} → Wrote R area (values l) before became r after
+      → (r ≡ writeAnswer R format l area before)
+      × ((after ≡ writeBuffer R format l area before)
+      × ((answerNumber r ≡ writingNumber became)
+      × ((answerPlace r ≡ writingPlace became) × ((answerRecords r ≡ writingRecords became) × (answerStarred r ≡ writingStarred (values l) became)))))
+  finished w = (
+    w .answers,
+    (
+      w .bytes,
+      (
+        ap answerNumber (w .answers) ∙ number-of (values l) became,
+        (
+          ap answerPlace (w .answers) ∙ place-of (values l) became,
+          (ap answerRecords (w .answers) ∙ records-of (values l) became, ap answerStarred (w .answers) ∙ starred-of (values l) became),
+        ),
+      ),
+    ),
+  )

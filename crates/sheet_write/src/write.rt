@@ -1,0 +1,59 @@
+// The public call.
+use crate::Written;
+use crate::texts::write_list;
+use list_elements::List;
+use list_elements::ListCheck;
+use list_elements::apart::take_apart;
+use sheet_walk::Refusal;
+ghost use mathlib.Core.Path.{_≡_};
+ghost use lib.ListN.{length};
+ghost use Rattle.list_elements.specs.Elements.{values};
+ghost use Rattle.sheet_write.specs.Writing.{writing, writeAnswer, writeBuffer, answerNumber, answerPlace, answerRecords, answerStarred, writingNumber, writingPlace, writingRecords, writingStarred};
+ghost use Rattle.sheet_write.specs.Parts.{usableCount};
+
+// The widest record.
+const WIDEST_RECORD: usize = 255;
+
+// How many elements are used: none of a bad list.
+fn usable(check: ListCheck, count: usize) -> usize
+    ensures { λ r. ⌜ r ≡ usableCount check count ⌝ }
+{
+    match check {
+        ListCheck::Good => count,
+        ListCheck::Bad { place: _ } => 0,
+    }
+}
+
+// Writes the list, its texts being in the area, under the format into records of this width in the buffer; or refuses, and
+// leaves the buffer as it was. Any width, any bytes, any list.
+pub fn write(width: usize, format: &[u8], list: List, area: &[u8], buffer: &mut [u8]) -> Written
+    ensures answers { λ r. ⌜ r ≡ writeAnswer width (now (format .entry)) list (now (area .entry)) (now (buffer .entry)) ⌝ }
+    ensures bytes { λ r. ⌜ now (buffer .exit) ≡ writeBuffer width (now (format .entry)) list (now (area .entry)) (now (buffer .entry)) ⌝ }
+    ensures number { λ r. ⌜ answerNumber r ≡ writingNumber (writing width (now (format .entry)) list (now (area .entry)) (length (now (buffer .entry)))) ⌝ }
+    ensures place { λ r. ⌜ answerPlace r ≡ writingPlace (writing width (now (format .entry)) list (now (area .entry)) (length (now (buffer .entry)))) ⌝ }
+    ensures records { λ r. ⌜ answerRecords r ≡ writingRecords (writing width (now (format .entry)) list (now (area .entry)) (length (now (buffer .entry)))) ⌝ }
+    ensures starred { λ r. ⌜ answerStarred r ≡ writingStarred (values list) (writing width (now (format .entry)) list (now (area .entry)) (length (now (buffer .entry)))) ⌝ }
+{
+    if width < 1 {
+        return Written::Refused(Refusal::RecordWidth);
+    }
+    if WIDEST_RECORD < width {
+        return Written::Refused(Refusal::RecordWidth);
+    }
+    let count = list.count;
+    let mut kinds = [0u64; 64];
+    let mut amounts = [0i64; 64];
+    let mut details = [0usize; 64];
+    let check = take_apart(list, area, &mut kinds, &mut amounts, &mut details);
+    let n = usable(check, count);
+    write_list(
+        width,
+        format,
+        check,
+        &kinds[..n],
+        &amounts[..n],
+        &details[..n],
+        area,
+        buffer,
+    )
+}
