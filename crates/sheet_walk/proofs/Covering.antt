@@ -1,6 +1,6 @@
 -- What is covered: laws that hold wherever the walk comes to.
 -- Assumes nothing.
-use mathlib.Core.Path.{_≡_, refl, ap, _∙_}
+use mathlib.Core.Path.{sym, _≡_, refl, ap, _∙_}
 use mathlib.Core.List.{List, [], _∷_}
 use Prim.Native.Nat.{ℕ, zero, suc, _+_, _-_, _<_, _≤_}
 use native.Mathlib.Omega.{arith}
@@ -13,10 +13,11 @@ use Rattle.list_elements.specs.Elements.{Kind}
 use Rattle.sheet_walk.specs.declared.Refusal.{Refusal}
 use Rattle.sheet_walk.specs.declared.Records.{Records}
 use Rattle.sheet_walk.specs.declared.State.{State}
+use Rattle.sheet_walk.specs.Refusals.{refusalPlace}
 use Rattle.sheet_walk.specs.Steps.{What, element, literal, Placement, Step, moves, covers, refused, ends, start, step, endStep}
 use Rattle.sheet_walk.specs.Walk.{Sheet, sheet, Trace, put, done, stopped, after, pass, returns, atEnd, walk}
 use Rattle.sheet_walk.specs.Columns.{In, here, there}
-use Rattle.sheet_walk.specs.Promises.{Walkable, EndsWith, Inside, Suited, placeOf, elementsPut, numbersFrom, CoversInside, CoversReached, ElementsSuited, PutsEach}
+use Rattle.sheet_walk.specs.Promises.{StopsWith, RefusedAt, LiteralsWide, Walkable, EndsWith, Inside, Suited, placeOf, elementsPut, numbersFrom, CoversInside, CoversReached, ElementsSuited, PutsEach}
 use Rattle.sheet_walk.proofs.StepLaws.{fieldsOf, fieldsIn, Moved, CoveredBy, Covered, Does, step-does, AtEnd, end-does}
 
 -- ---- the sheet of an accepted format
@@ -61,7 +62,7 @@ module _ (h : Sheet) (P : State → Trace → Type 0)
     (goes : (s n : State) (t : Trace) → s .row ≤ n .row → n .taken ≡ s .taken → P n t → P s t)
     (puts : (x : Met) (s n : State) (p : Placement) (t : Trace) → Stands h s → Covered (h .kinds) (h .records) x s p n → P n t → P s (put p t))
     (finishes : (s : State) → Stands h s → s .taken ≡ length (h .kinds) → P s (done (s .row + 1)))
-    (stops : (s : State) (why : Refusal) → P s (stopped why)) where
+    (stops : (s : State) (why : Refusal) → refusalPlace why ≡ s .taken → P s (stopped why)) where
   every-step : (x : Met) (st : Step) (s : State) (next : State → Trace) → Stands h s → (Walkable h → MetWithin x) → Does (h .kinds) (h .records) x s st
       → ((n : State) → Stands h n → n .taken ≡ s .taken + fieldsOf x → P n (next n)) → P s (after st s next)
   every-step x (moves n) s next i within d rest =
@@ -69,7 +70,7 @@ module _ (h : Sheet) (P : State → Trace → Type 0)
   every-step x (covers p n) s next i within d rest =
       puts x s n p (next n) i d
       (rest n (moved-stands h x s n i within (d .moved) (few-covered (h .kinds) x s (p .width) (p .what) (d .by) (i .few))) (d .moved .takes))
-  every-step x (refused why) s next i within d rest = stops s why
+  every-step x (refused why) s next i within d rest = stops s why d
   every-step x ends s next i within d rest = finishes s i (omega arith)
 
   every-pass : (next : State → Trace) (xs : List Met) (s : State) → Stands h s → (Walkable h → AllMetWithin xs)
@@ -86,7 +87,7 @@ module _ (h : Sheet) (P : State → Trace → Type 0)
       goes s n (next n) (d .0 .row-on) (omega (arith, d .0 .takes))
       (rest n (moved-stands h Met.slash s n i (λ w. tt) (d .0) (omega arith)) (omega (arith, d .0 .takes)) (d .1))
   every-end (covers p n) s next i d rest = absurd d
-  every-end (refused why) s next i d rest = stops s why
+  every-end (refused why) s next i d rest = stops s why d
   every-end ends s next i d rest = finishes s i (omega arith)
 
   every-return : (k : ℕ) (s : State) → Stands h s → length (h .kinds) ≤ s .taken + k → P s (returns h k s)
@@ -134,7 +135,7 @@ covers-inside h w =
     (λ s n t r e rest. rest)
     (λ x s n p t i c rest. in-put (Inside (h .records .width) (h .records .count)) (covered-inside h x s n p (h .records .count) i c w (i .in-records w)) rest)
     (λ s i e. in-done (Inside (h .records .width) (h .records .count)) (s .row + 1))
-    (λ s why. in-stopped (Inside (h .records .width) (h .records .count)) why)
+    (λ s why _. in-stopped (Inside (h .records .width) (h .records .count)) why)
 
 -- from s on the walk reaches a later record than that of s
 abbrev Reaches : Sheet → State → Trace → Type 0
@@ -149,7 +150,7 @@ reaches h w =
     let l : s .row < k = omega (arith, c .moved .row-on) in
     (l, a .1, in-put (Inside (h .records .width) k) (covered-inside h x s n p k i c w l) (a .2)))
     (λ s i e k m. let d = ends-done m in let l = i .in-records w in (omega arith, omega arith, in-done (Inside (h .records .width) k) (s .row + 1)))
-    (λ s why k m. absurd (ends-stopped m))
+    (λ s why _ k m. absurd (ends-stopped m))
 
 pub covers-reached : CoversReached
 covers-reached h w n m = let a = reaches h w n m in (a .1, a .2)
@@ -166,19 +167,19 @@ elements-suited h =
     (λ s n t r e rest. rest)
     (λ x s n p t i c rest. in-put (Suits h) (λ j f e. (rw e at (c .by)) .2) rest)
     (λ s i e. in-done (Suits h) (s .row + 1))
-    (λ s why. in-stopped (Suits h) why)
+    (λ s why _. in-stopped (Suits h) why)
 
 -- a literal covers as many columns as it has characters
 abbrev Literal : Placement → Type 0
 Literal p = (cs : List ℕ) → p .what ≡ literal cs → p .width ≡ length cs
 
-pub literals-wide : (h : Sheet) (p : Placement) → In p (walk h) → (cs : List ℕ) → p .what ≡ literal cs → p .width ≡ length cs
+pub literals-wide : LiteralsWide
 literals-wide h =
     every h (λ s t. (p : Placement) → In p t → Literal p)
     (λ s n t r e rest. rest)
     (λ x s n p t i c rest. in-put Literal (λ cs e. (rw e at (c .by)) .1) rest)
     (λ s i e. in-done Literal (s .row + 1))
-    (λ s why. in-stopped Literal why)
+    (λ s why _. in-stopped Literal why)
 
 -- the elements from that of s on, one of them put or none
 puts-one : (kinds : List Kind) (x : Met) (s n : State) (w : ℕ) (what : What) (is : List ℕ) → CoveredBy kinds x s w what → n .taken ≡ s .taken + fieldsOf x
@@ -201,7 +202,38 @@ puts-remaining h =
     (λ s n t r e rest k m. rest k m ∙ rw e)
     (λ x s n p t i c rest k m. puts-one (h .kinds) x s n (p .width) (p .what) (elementsPut t) (c .by) (c .moved .takes) (rest k (ends-put m)))
     (λ s i e k m. let z : length (h .kinds) - s .taken ≡ 0 = omega arith in rw z)
-    (λ s why k m. absurd (ends-stopped m))
+    (λ s why _ k m. absurd (ends-stopped m))
 
 pub puts-each : PutsEach
 puts-each h n m = puts-remaining h n m ∙ ap (numbersFrom 0) (omega arith)
+
+-- ---- refusals
+
+stops-put : {why : Refusal} {p : Placement} {t : Trace} → StopsWith why (put p t) → StopsWith why t
+stops-put (StopsWith.there m) = m
+
+stops-done : {why : Refusal} {n : ℕ} → StopsWith why (done n) → ⊥
+stops-done m = elim m [ ]
+
+stops-same : {why x : Refusal} → StopsWith why (stopped x) → x ≡ why
+stops-same StopsWith.here = refl
+
+-- one element more is taken where one is put
+takes-one : (kinds : List Kind) (x : Met) (s n : State) (w : ℕ) (what : What) (is : List ℕ) → CoveredBy kinds x s w what → n .taken ≡ s .taken + fieldsOf x
+    → n .taken + length is ≡ s .taken + length (placeOf what is)
+takes-one kinds x s n w (element i f) is by t = let t₁ : n .taken ≡ s .taken + 1 = t ∙ rw (by .0) in omega arith
+takes-one kinds x s n w (literal cs) is by t = let t₁ : n .taken ≡ s .taken = t ∙ rw (by .0) (omega arith) in omega arith
+
+abbrev Stops : State → Trace → Type 0
+Stops s t = (why : Refusal) → StopsWith why t → refusalPlace why ≡ s .taken + length (elementsPut t)
+
+pub refused-at : RefusedAt
+unfolding elementsPut
+refused-at h why m =
+    every h Stops
+    (λ s n t r e rest y k. rest y k ∙ rw e)
+    (λ x s n p t i c rest y k. rest y (stops-put k) ∙ takes-one (h .kinds) x s n (p .width) (p .what) (elementsPut t) (c .by) (c .moved .takes))
+    (λ s i e y k. absurd (stops-done k))
+    (λ s y g z k. ap refusalPlace (sym (stops-same k)) ∙ g ∙ omega arith)
+    why m
+    ∙ omega arith

@@ -65,4 +65,4 @@ ends-reached h =
     (λ s n t r e rest k m. let l = rest k m in omega arith)
     (λ x s n p t i c rest k m. let l = rest k (ends-put m) in omega (arith, c .moved .row-on))
     (λ s i e k m. let d = ends-done m in omega arith)
-    (λ s why k m. absurd (ends-stopped m))
+    (λ s why _ k m. absurd (ends-stopped m))

@@ -1,6 +1,6 @@
 -- The theorems on the walk that specs/Promises.antt states.
 -- Assumes nothing.
-use Rattle.sheet_walk.specs.Promises.{EndIs, ReturnTakes, CoversInside, CoversReached, ElementsSuited, PutsEach, CoveredTwiceIs, ColumnsKept}
+use Rattle.sheet_walk.specs.Promises.{EndIs, ReturnTakes, CoversInside, CoversReached, ElementsSuited, PutsEach, LiteralsWide, RefusedAt, CoveredTwiceIs, ColumnsKept}
 use Rattle.sheet_walk.proofs.Returns
 use Rattle.sheet_walk.proofs.Covering
 use Rattle.sheet_walk.proofs.Twice
@@ -27,6 +27,12 @@ elements-suited = Covering.elements-suited
 
 pub puts-each : PutsEach
 puts-each = Covering.puts-each
+
+pub literals-wide : LiteralsWide
+literals-wide = Covering.literals-wide
+
+pub refused-at : RefusedAt
+refused-at = Covering.refused-at
 
 -- ---- columns covered twice
 

@@ -16,6 +16,7 @@ use Rattle.list_elements.specs.Elements.{Kind, integer}
 use Rattle.sheet_walk.specs.declared.Refusal.the-variants as refusal
 use Rattle.sheet_walk.specs.declared.Records.{Records}
 use Rattle.sheet_walk.specs.declared.State.{State}
+use Rattle.sheet_walk.specs.Refusals.{refusalPlace}
 use Rattle.sheet_walk.specs.Steps.{What, element, literal, Placement, Step, moves, covers, refused, ends, state, suits, fieldWidth, coverStep, fieldStep, nextRecord, step, hasField, endStep}
 use Rattle.sheet_walk.specs.Promises.{Suited}
 
@@ -71,11 +72,12 @@ pub record Covered (kinds : List Kind) (rs : Records) (x : Met) (s : State) (p :
   pub at : p .column ≡ s .column
   pub up-to : p .column + p .width ≡ n .column
 
--- what an item does, by cases: a field does not move the walk alone, and ends it only where no element remains
+-- what an item does, by cases: a field does not move the walk alone, and ends it only where no element remains; a refusal has
+-- the elements taken as its place
 abbrev pub Does : List Kind → Records → Met → State → Step → Type 0
 Does kinds rs x s (moves n) = Moved rs x s n × (fieldsOf x ≡ 0)
 Does kinds rs x s (covers p n) = Covered kinds rs x s p n
-Does kinds rs x s (refused why) = Unit {0}
+Does kinds rs x s (refused why) = refusalPlace why ≡ s .taken
 Does kinds rs x s ends = length kinds ≤ s .taken
 
 module _ (kinds : List Kind) (rs : Records) (s : State) where
@@ -91,7 +93,7 @@ module _ (kinds : List Kind) (rs : Records) (s : State) where
         at = refl;
         up-to = refl;
       })
-      (λ e. tt)
+      (λ e. refl)
 
   field-does : (f : Field ℕ) → Does kinds rs (Met.field f) s (fieldStep rs s f (drop (s .taken) kinds))
   field-does f =
@@ -106,7 +108,7 @@ module _ (kinds : List Kind) (rs : Records) (s : State) where
           (coverStep rs s (element (s .taken) f) (fieldWidth f k) (s .taken + 1))
           (refused (refusal.Kind (s .taken)))
           (λ g. cover-does (Met.field f) (element (s .taken) f) (fieldWidth f k) (s .taken + 1) (refl, refl, record { known = lt; suited = g; wide = refl }) refl)
-          (λ g. tt))
+          (λ g. refl))
       go false e =
           let le : length kinds ≤ s .taken = ltb-false _ _ e in
           rw (drop-of-length-le kinds le) le
@@ -117,7 +119,7 @@ module _ (kinds : List Kind) (rs : Records) (s : State) where
   slash-does : Does kinds rs Met.slash s (nextRecord rs s)
   slash-does =
       by-test (Does kinds rs Met.slash s) (ltb (s .row + 1) (rs .count)) (moves (state (s .row + 1) 1 (s .taken))) (refused (refusal.NextRecord (s .taken)))
-      (λ e. (next-moved e, refl)) (λ e. tt)
+      (λ e. (next-moved e, refl)) (λ e. refl)
 
   pub step-does : (x : Met) → Does kinds rs x s (step kinds rs x s)
   unfolding step
@@ -125,11 +127,11 @@ module _ (kinds : List Kind) (rs : Records) (s : State) where
   step-does (Met.X n) =
       by-test (Does kinds rs (Met.X n) s) (leb (s .column + n) (rs .width + 1)) (moves (state (s .row) (s .column + n) (s .taken))) (refused (refusal.Column (s .taken)))
       (λ e. (record { takes = omega arith; row-on = omega arith; row-in = λ h. h; from = λ m h. omega arith; to = leb-true _ _ e }, refl))
-      (λ e. tt)
+      (λ e. refl)
   step-does (Met.T n) =
       by-test (Does kinds rs (Met.T n) s) (leb n (rs .width)) (moves (state (s .row) n (s .taken))) (refused (refusal.Column (s .taken)))
       (λ e. (record { takes = omega arith; row-on = omega arith; row-in = λ h. h; from = λ m h. m .0; to = omega (arith, leb-true n (rs .width) e) }, refl))
-      (λ e. tt)
+      (λ e. refl)
   step-does Met.slash = slash-does
   step-does (Met.literal cs) = cover-does (Met.literal cs) (literal cs) (length cs) (s .taken) (refl, refl) (omega arith)
 
@@ -137,7 +139,7 @@ module _ (kinds : List Kind) (rs : Records) (s : State) where
   abbrev pub AtEnd : List Met → Step → Type 0
   AtEnd part (moves n) = Moved rs Met.slash s n × (1 ≤ fieldsIn part) × (s .taken < length kinds)
   AtEnd part (covers p n) = ⊥
-  AtEnd part (refused why) = Unit {0}
+  AtEnd part (refused why) = refusalPlace why ≡ s .taken
   AtEnd part ends = length kinds ≤ s .taken
 
   pub end-does : (part : List Met) → AtEnd part (endStep kinds rs part s)
@@ -149,5 +151,5 @@ module _ (kinds : List Kind) (rs : Records) (s : State) where
       by-test (AtEnd part) (hasField part) (nextRecord rs s) (refused (refusal.NoField (s .taken)))
       (λ f.
       by-test (AtEnd part) (ltb (s .row + 1) (rs .count)) (moves (state (s .row + 1) 1 (s .taken))) (refused (refusal.NextRecord (s .taken)))
-      (λ g. (next-moved g, has-fields part f, leb-false (length kinds) (s .taken) e)) (λ g. tt))
-      (λ f. tt))
+      (λ g. (next-moved g, has-fields part f, leb-false (length kinds) (s .taken) e)) (λ g. refl))
+      (λ f. refl))

@@ -37,3 +37,14 @@ unfoldable pub coveredTwice : Trace → Bool
 coveredTwice (put p t) = sharesWith p t || coveredTwice t
 coveredTwice (done n) = false
 coveredTwice (stopped why) = false
+
+-- ---- 'a later item overwrites'
+
+-- p is the last placement of the walk that covers the column c of the record r
+pub data LastCovers (p : Placement) (r c : ℕ) : Trace → Type 0 where
+  here : {t : Trace} → Covers p r c → ((q : Placement) → In q t → Covers q r c → ⊥) → LastCovers p r c (put p t)
+  there : {q : Placement} {t : Trace} → LastCovers p r c t → LastCovers p r c (put q t)
+
+-- no placement of the walk covers it
+abbrev pub Uncovered : ℕ → ℕ → Trace → Type 0
+Uncovered r c t = (p : Placement) → In p t → Covers p r c → ⊥

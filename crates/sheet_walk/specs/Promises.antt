@@ -9,11 +9,12 @@ use lib.ListN.{length, getD}
 use Rattle.format_grammar.specs.Items.{Field}
 use Rattle.format_grammar.specs.Promises.{AllMetWithin}
 use Rattle.list_elements.specs.Elements.{Kind, integer}
+use Rattle.sheet_walk.specs.Refusals.{refusalPlace}
 use Rattle.sheet_walk.specs.Steps.{What, element, literal, Placement, suits, fieldWidth}
 use Rattle.sheet_walk.specs.Walk.{Sheet, Trace, put, done, stopped, return, atEnd, walk}
 use Rattle.sheet_walk.specs.Columns.{In, CoveredTwice, coveredTwice}
 use Rattle.sheet_walk.specs.Laid.{offsetOf, laid, columns}
-use Rattle.sheet_walk.specs.declared.Records.{Records}
+use Rattle.sheet_walk.specs.declared.Refusal.{Refusal}
 use Rattle.sheet_walk.specs.declared.State.{State}
 
 -- ---- the walk is total
@@ -83,6 +84,19 @@ numbersFrom i (suc n) = i ∷ numbersFrom (i + 1) n
 -- a walk that ends puts every element of the list once, in order
 abbrev pub PutsEach : Type 0
 PutsEach = (h : Sheet) (n : ℕ) → EndsWith n (walk h) → elementsPut (walk h) ≡ numbersFrom 0 (length (h .kinds))
+
+-- a literal covers as many columns as it has characters
+abbrev pub LiteralsWide : Type 0
+LiteralsWide = (h : Sheet) (p : Placement) → In p (walk h) → (cs : List ℕ) → p .what ≡ literal cs → p .width ≡ length cs
+
+-- the walk is refused
+pub data StopsWith (why : Refusal) : Trace → Type 0 where
+  here : StopsWith why (stopped why)
+  there : {p : Placement} {t : Trace} → StopsWith why t → StopsWith why (put p t)
+
+-- with the elements taken as its place, so many being put before
+abbrev pub RefusedAt : Type 0
+RefusedAt = (h : Sheet) (why : Refusal) → StopsWith why (walk h) → refusalPlace why ≡ length (elementsPut (walk h))
 
 -- ---- columns covered twice
 

@@ -12,7 +12,7 @@ use Rattle.buffer.specs.Characters.{blank}
 use Rattle.buffer.specs.Splice.{splice}
 use Rattle.sheet_walk.specs.Steps.{Placement}
 use Rattle.sheet_walk.specs.Walk.{Trace, put}
-use Rattle.sheet_walk.specs.Columns.{Covers, In}
+use Rattle.sheet_walk.specs.Columns.{Covers, In, LastCovers, Uncovered}
 use Rattle.sheet_walk.specs.Laid.{offset, offsetOf, laid, blanked, written}
 use Rattle.sheet_walk.specs.Promises.{Inside}
 use Rattle.sheet_walk.proofs.SpliceLaws.{length-splice, splice-inside}
@@ -42,16 +42,7 @@ getD-blanked R n buffer h i l =
 
 -- ---- one column
 
--- p is the last placement of the walk that covers the column c of the record r
-pub data LastCovers (p : Placement) (r c : ℕ) : Trace → Type 0 where
-  here : {t : Trace} → Covers p r c → ((q : Placement) → In q t → Covers q r c → ⊥) → LastCovers p r c (put p t)
-  there : {q : Placement} {t : Trace} → LastCovers p r c t → LastCovers p r c (put q t)
-
--- no placement of the walk covers it
-abbrev pub Uncovered : ℕ → ℕ → Trace → Type 0
-Uncovered r c t = (p : Placement) → In p t → Covers p r c → ⊥
-
--- its byte is then none of the placement's
+-- where a placement does not cover a column, the column's byte is none of its
 outside-column : (R n : ℕ) (q : Placement) → Inside R n q → (r c : ℕ) → 1 ≤ c → c ≤ R → (Covers q r c → ⊥) → Outside (offsetOf R q) (q .width) (offset R r c)
 outside-column R n q i r c from to none = go (decLt r (q .row)) (decLt (q .row) r) (decLt c (q .column)) (decLt c (q .column + q .width))
   where

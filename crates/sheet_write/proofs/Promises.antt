@@ -1,19 +1,56 @@
 -- The theorems on writing that specs/Promises.antt states.
 -- Assumes nothing.
-use mathlib.Core.Path.{sym, ap, _∙_, subst}
+use mathlib.Core.Path.{_≡_, sym, ap, _∙_, subst}
 use Prim.Native.Nat.{_*_, _≤_}
 use native.Mathlib.Omega.{arith}
-use lib.ListN.{length, drop}
-use Rattle.sheet_walk.specs.Laid.{blanked, written, columns}
+use lib.ListN.{length, drop, getD}
+use Rattle.format_grammar.proofs.Promises as grammar
+use Rattle.sheet_walk.specs.Laid.{offset, blanked, written, columns}
 use Rattle.sheet_walk.proofs.Windows.{length-laid, drop-laid}
 use Rattle.sheet_walk.proofs.Promises.{columns-kept}
 use Rattle.write_passes.specs.Placed.{valueAt, characters}
-use Rattle.sheet_write.specs.Writing.{answerOf, answerRecords, answerStarred, bufferOf}
-use Rattle.sheet_write.specs.Promises.{vs, Unrepresentable, Counted, StarsExactlyWhen, StarredIsTheirNumber, RecordsReached, ColumnsHold, RestKept, RefusedLeaves}
-use Rattle.sheet_write.proofs.Accepted.{ends-so, some-reached, room, all-fit, all-suited}
-use Rattle.sheet_write.proofs.Bytes.{length-blanked, drop-blanked}
+use Rattle.write_passes.proofs.PlacedLaws.{judged-ends, judged-small, judged-accepts}
+use Rattle.sheet_write.specs.Writing.{accepts, answerOf, answerNumber, answerPlace, answerRecords, answerStarred, bufferOf}
+use Rattle.sheet_write.specs.Promises.{vs, becomes, Accepted, AcceptsExactly, ElementsPut, Unrepresentable, Counted, StarsExactlyWhen, StarredIsTheirNumber, RecordsReached, LastHolds, BlankElsewhere, ColumnsHold, RestKept, RefusedSo}
+use Rattle.sheet_write.proofs.Accepted.{passes, ends-so, some-reached, room, all-fit, all-suited, puts-all}
+use Rattle.sheet_write.proofs.Bytes.{length-blanked, drop-blanked, written-last, written-blank}
 use Rattle.sheet_write.proofs.Calls.{call-passed, buffer-is}
 use Rattle.sheet_write.proofs.Starred.{stars-none, counted}
+
+-- ---- what is accepted
+
+pub accepts-exactly : AcceptsExactly
+accepts-exactly c t n = (forth, back)
+  where
+    forth : becomes c ≡ accepts t n → Accepted c t n
+    forth e =
+        let a = call-passed c t n e in
+        record {
+          xs = a .xs;
+          from = a .from;
+          to = a .to;
+          format = grammar.accepts-exactly (c .format) (a .xs) .0 (a .read);
+          list = a .good;
+          some-record = a .some;
+          walks = a .is;
+          ends = judged-ends (vs c) t n (a .judged-so);
+          small = judged-small (vs c) t n (a .judged-so);
+        }
+    back : Accepted c t n → becomes c ≡ accepts t n
+    back a =
+        passes (record {
+          xs = a .xs;
+          from = a .from;
+          to = a .to;
+          read = grammar.accepts-exactly (c .format) (a .xs) .1 (a .format);
+          good = a .list;
+          some = a .some-record;
+          is = a .walks;
+          judged-so = judged-accepts (vs c) t n (a .ends) (a .small);
+        })
+
+pub elements-put : ElementsPut
+elements-put c t n e = puts-all (call-passed c t n e)
 
 -- ---- demand 3 of the order, first half
 
@@ -31,6 +68,18 @@ pub records-reached : RecordsReached
 records-reached c t n e =
     let a = call-passed c t n e in
     (ends-so a, ap (λ w. answerRecords (answerOf (vs c) w)) e, some-reached a, room a)
+
+pub last-holds : LastHolds
+last-holds c t n e p r k last =
+    let a = call-passed c t n e in
+    ap (λ b. getD b (offset (c .R) r k) 0) (buffer-is c t n e)
+    ∙ written-last (c .R) n (characters (c .area) (vs c)) last (c .buffer) (room a) (all-fit a (c .area))
+
+pub blank-elsewhere : BlankElsewhere
+blank-elsewhere c t n e r k h from to none =
+    let a = call-passed c t n e in
+    ap (λ b. getD b (offset (c .R) r k) 0) (buffer-is c t n e)
+    ∙ written-blank (c .R) n (characters (c .area) (vs c)) r k t h from to none (c .buffer) (room a) (all-fit a (c .area))
 
 pub columns-hold : ColumnsHold
 unfolding written
@@ -50,5 +99,12 @@ rest-kept c t n e =
       ap (drop (n * c .R)) (buffer-is c t n e) ∙ drop-laid (c .R) n (characters (c .area) (vs c)) t (blanked (c .R) n (c .buffer)) h (all-fit a (c .area)) ∙ drop-blanked (c .R) n (c .buffer),
     )
 
-pub refused-leaves : RefusedLeaves
-refused-leaves c why e = ap (bufferOf (c .R) (c .area) (vs c) (c .buffer)) e
+pub refused-so : RefusedSo
+refused-so c why e =
+    (
+      ap (λ w. answerNumber (answerOf (vs c) w)) e,
+      ap (λ w. answerPlace (answerOf (vs c) w)) e,
+      ap (λ w. answerRecords (answerOf (vs c) w)) e,
+      ap (λ w. answerStarred (answerOf (vs c) w)) e,
+      ap (bufferOf (c .R) (c .area) (vs c) (c .buffer)) e
+    )
