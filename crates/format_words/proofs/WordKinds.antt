@@ -1,15 +1,14 @@
 -- The item that a word stands for, by its kind.
 -- Assumes nothing.
-use mathlib.Core.Path.{_≡_, refl}
-use mathlib.Core.Bool.{Bool, true, false}
+use mathlib.Core.Path.{_≡_}
 use mathlib.Core.List.{List}
-use Prim.Native.Nat.{ℕ, zero, suc, _+_, _<_, _≤_}
+use Prim.Native.Nat.{ℕ, _<_}
 use native.Mathlib.Omega.{arith}
 use borrow.Author.Tests.{ne-eqb}
-use lib.ListN.{length, take, drop, length-take, length-drop}
+use lib.ListN.{take, drop}
 use Rattle.format_grammar.specs.Items.{Field}
 use Rattle.format_grammar.specs.Met.{Met}
-use Rattle.format_words.specs.Words.{kindOf, firstOf, secondOf, metOf, reach}
+use Rattle.format_words.specs.Words.{kindOf, firstOf, secondOf, metOf}
 
 module _ (t : List ℕ) (w : ℕ) where
   pub is-I : kindOf w ≡ 0 → metOf t w ≡ Met.field (Field.I (firstOf w))

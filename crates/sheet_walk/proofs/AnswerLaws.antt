@@ -1,9 +1,8 @@
 -- What the code's steps answer, from what their tests say.
 -- Assumes nothing.
-use mathlib.Core.Path.{_≡_, refl, sym, ap, _∙_}
-use mathlib.Core.Bool.{Bool, true, false}
+use mathlib.Core.Path.{_≡_, refl, sym, _∙_}
 use mathlib.Core.List.{List, [], _∷_, map}
-use Prim.Native.Nat.{ℕ, zero, suc, _+_, _-_, _*_, _/_, _%_, _^_, _<_, _≤_}
+use Prim.Native.Nat.{ℕ, zero, suc, _+_, _-_, _*_, _%_, _^_, _<_, _≤_}
 use native.Mathlib.Nat.{suc-mul, mul-le-mul-right}
 use native.Mathlib.Numerals.{add-one}
 use native.Mathlib.Omega.{arith}
@@ -12,7 +11,6 @@ use lib.Dec.{eqb}
 use lib.ListN.{length, getD, drop, length-map, List·getD-map, drop-of-length-le}
 use lib.Seq.{drop-cons}
 use Rattle.format_grammar.specs.Items.{Field}
-use Rattle.list_elements.specs.Elements.{Kind, integer}
 use Rattle.list_elements.specs.Apart.{kindFrom}
 use Rattle.sheet_walk.specs.Steps.{state, What, element, suits, fieldWidth, coverStep, fieldStep}
 use Rattle.sheet_walk.specs.Turns.{Standing, fieldKind, fieldColumns, stepAnswer}

@@ -1,16 +1,15 @@
 -- The items of a run of words.
 -- Assumes nothing.
-use mathlib.Core.Path.{_≡_, refl, sym, ap, _∙_}
-use mathlib.Core.Bool.{Bool, true, false}
+use mathlib.Core.Path.{_≡_, refl}
+use mathlib.Core.Bool.{true, false}
 use mathlib.Core.List.{List, [], _∷_, map}
 use Prim.Native.Nat.{ℕ, zero, suc, _+_, _<_, _≤_}
 use native.Mathlib.Numerals.{add-one}
 use native.Mathlib.Omega.{arith}
-use borrow.Author.Tests.{le-leb, lt-leb}
+use borrow.Author.Tests.{lt-leb}
 use lib.Dec.{leb}
-use lib.ListN.{length, getD, take, drop, length-map, List·getD-map, drop-of-length-le}
+use lib.ListN.{length, getD, take, drop, length-map, List·getD-map, drop-of-length-le, length-drop}
 use lib.Seq.{drop-cons, length-take-le}
-use lib.ListN.{length-drop}
 use Rattle.format_grammar.specs.Met.{Met}
 use Rattle.format_words.specs.Words.{kindOf, firstOf, secondOf, metOf, reach}
 use Rattle.format_words.proofs.WordKinds.{is-I, is-F, is-L, is-A, is-Aw, is-X, is-T, is-slash, is-literal}

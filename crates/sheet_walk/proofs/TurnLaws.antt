@@ -1,10 +1,9 @@
 -- A turn of the code is a step of the walk.
 -- Assumes nothing.
-use mathlib.Core.Path.{_≡_, refl, sym, ap, subst, _∙_}
-use mathlib.Core.Bool.{Bool, true, false, cond}
-use mathlib.Core.List.{List, [], _∷_, map}
+use mathlib.Core.Path.{_≡_, refl, _∙_}
+use mathlib.Core.Bool.{Bool, true, false}
+use mathlib.Core.List.{List, map}
 use Prim.Native.Nat.{ℕ, _+_, _<_, _≤_}
-use native.Mathlib.Omega.{arith}
 use borrow.Author.Tests.{lt-ltb, le-ltb, ltb-true, ltb-false}
 use lib.Dec.{ltb}
 use lib.ListN.{length, getD, drop, length-map, drop-of-length-le}
@@ -14,15 +13,13 @@ use Rattle.format_grammar.specs.Met.{Met}
 use Rattle.format_words.specs.Words.{metOf}
 use Rattle.list_elements.specs.Apart.{kindFrom}
 use Rattle.sheet_walk.specs.Steps as steps
-use Rattle.sheet_walk.specs.Walk.{Sheet, Trace, put, done, stopped, after, pass, return, atEnd, walk}
-use Rattle.sheet_walk.specs.Laid.{offsetOf}
+use Rattle.sheet_walk.specs.Walk.{Sheet, Trace, after, pass, return, atEnd}
 use Rattle.sheet_walk.specs.Turns.{stepAnswer, cursor, onwardAnswer, sheetOf, stepAt, indexAfter, turnOf}
 use Rattle.sheet_walk.specs.declared.Records.{Records}
 use Rattle.sheet_walk.specs.declared.State.{State}
 use Rattle.sheet_walk.specs.declared.Cursor.{Cursor}
 use Rattle.sheet_walk.specs.declared.Step.{Step}
 use Rattle.sheet_walk.specs.declared.Turn.{Turn}
-use Rattle.sheet_walk.specs.declared.Turn.the-variants as turn
 use Rattle.sheet_walk.proofs.ItemLaws.{item-at}
 
 -- ---- what the code answers

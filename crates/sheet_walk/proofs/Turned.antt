@@ -1,7 +1,7 @@
 -- What a turn of the code says of the walk: what is left of it, where it then stands, and that it comes to an end.
 -- Assumes nothing.
-use mathlib.Core.Path.{_≡_, refl, sym, ap, subst, _∙_}
-use mathlib.Core.Bool.{Bool, true, false, cond}
+use mathlib.Core.Path.{_≡_, refl, sym, subst, _∙_}
+use mathlib.Core.Bool.{Bool, true, false}
 use mathlib.Core.List.{List, [], _∷_}
 use Prim.Native.Nat.{ℕ, zero, suc, _+_, _-_, _*_, _<_, _≤_}
 use native.Mathlib.Numerals.{add-one}
@@ -22,7 +22,7 @@ use Rattle.sheet_walk.specs.declared.State.{State}
 use Rattle.sheet_walk.specs.declared.Cursor.{Cursor}
 use Rattle.sheet_walk.specs.declared.Turn.{Turn}
 use Rattle.sheet_walk.specs.declared.Turn.the-variants as turn
-use Rattle.sheet_walk.proofs.StepLaws.{fieldsOf, fieldsIn, Moved, CoveredBy, Covered, Does, step-does, AtEnd, end-does}
+use Rattle.sheet_walk.proofs.StepLaws.{fieldsOf, fieldsIn, Covered, Does, step-does, AtEnd, end-does}
 use Rattle.sheet_walk.proofs.Returns.{end-is}
 use Rattle.sheet_walk.proofs.Covering.{Stands, moved-stands, few-covered}
 use Rattle.sheet_walk.proofs.TurnLaws.{walkAt, walk-step}

@@ -1,6 +1,6 @@
 -- Document 01, 'The walk': columns covered, and covered twice.
 -- Assumes nothing.
-use mathlib.Core.Bool.{Bool, true, false, _&&_, _||_}
+use mathlib.Core.Bool.{Bool, false, _&&_, _||_}
 use Prim.Native.Nat.{ℕ, _+_, _<_, _≤_, max, min}
 use lib.Dec.{eqb, ltb}
 use mathlib.Core.Path.{_≡_}

@@ -13,7 +13,7 @@ use Rattle.sheet_walk.specs.Refusals.{refusalPlace}
 use Rattle.sheet_walk.specs.Steps.{What, element, literal, Placement, suits, fieldWidth}
 use Rattle.sheet_walk.specs.Walk.{Sheet, Trace, put, done, stopped, return, atEnd, walk}
 use Rattle.sheet_walk.specs.Columns.{In, CoveredTwice, coveredTwice}
-use Rattle.sheet_walk.specs.Laid.{offsetOf, laid, columns}
+use Rattle.sheet_walk.specs.Laid.{laid, columns}
 use Rattle.sheet_walk.specs.declared.Refusal.{Refusal}
 use Rattle.sheet_walk.specs.declared.State.{State}
 

@@ -36,6 +36,7 @@ accepts-exactly c t n = (forth, back)
           ends = judged-ends (vs c) t n (a .judged-so);
           small = judged-small (vs c) t n (a .judged-so);
         }
+
     back : Accepted c t n → becomes c ≡ accepts t n
     back a =
         passes (record {
@@ -100,11 +101,10 @@ rest-kept c t n e =
     )
 
 pub refused-so : RefusedSo
-refused-so c why e =
-    (
-      ap (λ w. answerNumber (answerOf (vs c) w)) e,
-      ap (λ w. answerPlace (answerOf (vs c) w)) e,
-      ap (λ w. answerRecords (answerOf (vs c) w)) e,
-      ap (λ w. answerStarred (answerOf (vs c) w)) e,
-      ap (bufferOf (c .R) (c .area) (vs c) (c .buffer)) e
-    )
+refused-so c why e = (
+  ap (λ w. answerNumber (answerOf (vs c) w)) e,
+  ap (λ w. answerPlace (answerOf (vs c) w)) e,
+  ap (λ w. answerRecords (answerOf (vs c) w)) e,
+  ap (λ w. answerStarred (answerOf (vs c) w)) e,
+  ap (bufferOf (c .R) (c .area) (vs c) (c .buffer)) e,
+)

@@ -1,6 +1,6 @@
 -- The public call, from what its parts do.
 -- Assumes nothing.
-use mathlib.Core.Path.{_≡_, refl, sym, ap, subst, _∙_}
+use mathlib.Core.Path.{_≡_, refl, sym, ap, _∙_}
 use mathlib.Core.List.{List}
 use Prim.Native.Nat.{ℕ, _<_, _≤_}
 use native.Mathlib.Omega.{arith}
@@ -12,14 +12,14 @@ use Rattle.format_grammar.specs.Check.{outcome}
 use Rattle.list_elements.specs.Elements.{values}
 use Rattle.list_elements.specs.Limits.{listCheck}
 use Rattle.list_elements.specs.Apart.{Apart}
-use Rattle.list_elements.proofs.ApartLaws.{bad-not-good, check-good}
+use Rattle.list_elements.proofs.ApartLaws.{check-good}
 use Rattle.list_elements.specs.declared.Value.{Value}
 use Rattle.list_elements.specs.declared.List as carried
 use Rattle.list_elements.specs.declared.ListCheck.{ListCheck}
 use Rattle.list_elements.specs.declared.ListCheck.the-variants.{Good, Bad}
 use Rattle.sheet_walk.specs.declared.Refusal.the-variants.{RecordWidth}
 use Rattle.sheet_write.specs.Writing.{Writing, accepts, refuses, checkFormat, writingOf, writing, answerOf, writeAnswer, writeBuffer, writingNumber, writingPlace, writingRecords, writingStarred, answerNumber, answerPlace, answerRecords, answerStarred}
-use Rattle.sheet_write.specs.Parts.{usableCount, Listed, ListedIf, Wrote}
+use Rattle.sheet_write.specs.Parts.{usableCount, ListedIf, Wrote}
 use Rattle.sheet_write.specs.declared.Written.{Written}
 use Rattle.sheet_write.specs.declared.Written.the-variants as answer
 

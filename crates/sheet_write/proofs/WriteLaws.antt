@@ -1,18 +1,16 @@
 -- What the inner functions of writing do, from what their callees say.
 -- Assumes nothing.
 use mathlib.Core.Path.{_≡_, refl, sym, ap, subst, _∙_}
-use mathlib.Core.Bool.{true, false}
 use mathlib.Core.List.{List, [], _∷_, map}
-use mathlib.Core.Logic.{_↔_}
 use Prim.Native.Nat.{ℕ, _+_, _*_, _/_, _^_, _<_, _≤_}
 use native.Mathlib.Nat.{mul-le-mul-left, mul-le-mul-right, div-mul-le-self}
 use native.Mathlib.Omega.{arith}
-use borrow.Author.Tests.{le-leb, lt-leb, eq-eqb, ne-eqb}
+use borrow.Author.Tests.{eq-eqb, ne-eqb}
 use lib.IntN.{ℤ}
-use lib.ListN.{length, take, drop, replicate}
+use lib.ListN.{length, take, replicate}
 use Rattle.buffer.specs.Splice.{splice}
 use Rattle.format_grammar.specs.Items.{Items}
-use Rattle.format_grammar.specs.Met.{met, returnPart, returnIndex}
+use Rattle.format_grammar.specs.Met.{met, returnIndex}
 use Rattle.format_grammar.specs.Check as formats
 use Rattle.format_grammar.specs.Promises.{AllMetWithin}
 use Rattle.format_grammar.specs.declared.FormatRefusal.{FormatRefusal}
@@ -21,14 +19,13 @@ use Rattle.format_words.specs.Words.{metOf}
 use Rattle.format_run.specs.Runs.{RunWords, Ran}
 use Rattle.format_check.specs.Checked.{ItemsHeld}
 use Rattle.list_elements.specs.Elements.{kindOf}
-use Rattle.list_elements.specs.Apart.{kindFrom}
 use Rattle.list_elements.proofs.ApartLaws.{kinds-from}
 use Rattle.list_elements.specs.declared.Value.{Value}
 use Rattle.list_elements.specs.declared.ListCheck.{ListCheck}
 use Rattle.list_elements.specs.declared.ListCheck.the-variants.{Good, Bad}
 use Rattle.sheet_walk.specs.Walk.{Sheet, sheet, walk}
 use Rattle.sheet_walk.specs.Laid.{laid, blanked, written}
-use Rattle.sheet_walk.specs.Turns.{Loaded, sheetOf}
+use Rattle.sheet_walk.specs.Turns.{sheetOf}
 use Rattle.sheet_walk.specs.declared.Refusal.{Refusal}
 use Rattle.sheet_walk.specs.declared.Refusal.the-variants as refusal
 use Rattle.sheet_walk.specs.declared.Records.{Records}

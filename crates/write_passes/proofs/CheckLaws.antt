@@ -1,6 +1,6 @@
 -- The checking pass: what holds at each turn.
 -- Assumes nothing.
-use mathlib.Core.Path.{_≡_, refl, sym, ap, subst, _∙_}
+use mathlib.Core.Path.{_≡_, refl, ap, subst, _∙_}
 use mathlib.Core.Bool.{true, false}
 use mathlib.Core.List.{List, map}
 use Prim.Native.Nat.{ℕ, _<_}
@@ -8,14 +8,14 @@ use native.Mathlib.Omega.{arith}
 use lib.IntN.{ℤ}
 use lib.ListN.{length, getD, length-map}
 use Rattle.format_grammar.specs.Met.{Met}
-use Rattle.format_grammar.specs.Promises.{MetWithin, AllMetWithin}
+use Rattle.format_grammar.specs.Promises.{MetWithin}
 use Rattle.format_words.specs.Words.{metOf}
 use Rattle.list_elements.specs.Elements.{Kind, kindOf}
 use Rattle.list_elements.specs.Apart.{kindFrom}
 use Rattle.list_elements.proofs.ApartLaws.{kinds-from}
 use Rattle.list_elements.specs.declared.Value.{Value}
 use Rattle.sheet_walk.specs.Steps.{What, element, literal, Placement}
-use Rattle.sheet_walk.specs.Walk.{Trace, put, done, stopped, walk}
+use Rattle.sheet_walk.specs.Walk.{Trace, put, walk}
 use Rattle.sheet_walk.specs.Turns.{sheetOf}
 use Rattle.sheet_walk.specs.declared.Refusal.the-variants.{TooLarge}
 use Rattle.sheet_walk.specs.declared.Records.{Records}

@@ -30,12 +30,12 @@ use Rattle.list_elements.specs.Apart.{kindNumber, amount, detail}
 use Rattle.list_elements.proofs.ApartLaws.{kinds-length, amounts-length, details-length, kind-at, amount-at, detail-at, good-at}
 use Rattle.list_elements.proofs.LimitLaws.{from-bits}
 use Rattle.list_elements.specs.declared.Value.{Value}
-use Rattle.sheet_walk.specs.Steps.{suits, isInteger, isDecimal, isLogical, isText}
+use Rattle.sheet_walk.specs.Steps.{suits, isText}
 use Rattle.sheet_walk.specs.Promises.{Suited}
 use Rattle.sheet_walk.proofs.ItemLaws.{literal-length}
 use Rattle.write_passes.specs.Placed.{integerOf, decimalOf, logicalOf, spanOf, fieldCharacters, fieldStarred, fieldTooLarge, valueAt, charactersOf, starredOf}
 use Rattle.write_passes.specs.Passes.{whatOf, whatTooLarge, putStars, Covering, Placeable}
-use Rattle.write_passes.proofs.ValueLaws.{no-way, integer-data, decimal-data, logical-data, text-data}
+use Rattle.write_passes.proofs.ValueLaws.{integer-data, decimal-data, logical-data, text-data}
 
 module _ {t area : List ℕ} {vs : List Value} {ks : List ℕ} {ms : List ℤ} {ds : List ℕ} {word i w : ℕ} (p : Placeable t area vs ks ms ds word i w) where
   abbrev v : Value

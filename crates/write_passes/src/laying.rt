@@ -8,7 +8,7 @@ use sheet_walk::items::has_field;
 use sheet_walk::turns::advance;
 ghost use mathlib.Core.Path.{_≡_};
 ghost use mathlib.Core.List.{List};
-ghost use Prim.Native.Nat.{ℕ, _*_, _≤_};
+ghost use Prim.Native.Nat.{_*_, _≤_};
 ghost use lib.ListN.{length};
 ghost use Rattle.list_elements.specs.declared.Value.{Value};
 ghost use Rattle.sheet_walk.specs.Walk.{walk};

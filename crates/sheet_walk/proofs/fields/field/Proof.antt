@@ -1,36 +1,28 @@
+-- `sheet_walk::fields::field` meets its contract.
+-- Assumes nothing.
 use Rattle.sheet_walk.proofs.AnswerLaws.{field-covers, field-refused, field-ends}
 use borrow.Author.Needs.{needs}
 use Rattle.sheet_walk.proofs.fields.field.Statement.{statement}
 use Rattle.sheet_walk.proofs.fields.field.Tie as tie
-use Rattle.sheet_walk.proofs.fields.field.Reads as reads
-use Rattle.sheet_walk.proofs.fields.field.Lts as lts
-use Rattle.sheet_walk.proofs.fields.cover.Reads as cover-reads
 
--- src/fields.rt:52:12
 mul-if2 : tie.Need-mul-if2
 mul-if2 c = search needs
 
--- src/fields.rt:52:12
 shared-slice-read-if2 : tie.Need-shared-slice-read-if2
 shared-slice-read-if2 c = search needs
 
--- src/fields.rt:53:40
 add-cover : tie.Need-add-cover
 add-cover c = search needs
 
--- src/fields.rt:53:13
 cover-requires : tie.Need-cover-requires
 cover-requires c κs = search needs
 
--- src/fields.rt:53:13
 returns : tie.Need-returns
 returns c = λ f fk fc. let a = c .before .before .before .before .before in field-covers (a .args .rs) (a .args .s) (a .args .kinds .now) (a .args .kind) (a .args .width) f fk fc (c .before .before .before .if1 .taken) (c .before .if2 .taken) (c .cover .ensures)
 
--- src/fields.rt:55:9
 returns-2 : tie.Need-returns-2
 returns-2 c = λ f fk fc. let a = c .before .before .before .before in field-refused (a .args .rs) (a .args .s) (a .args .kinds .now) (a .args .kind) (a .args .width) f fk fc (c .before .before .if1 .taken) (c .if2 .left)
 
--- src/fields.rt:46:1
 returns-3 : tie.Need-returns-3
 returns-3 c = λ f fk fc. let a = c .before .before in field-ends (a .args .rs) (a .args .s) (a .args .kinds .now) (a .args .kind) (a .args .width) f fk fc (c .if1 .left)
 

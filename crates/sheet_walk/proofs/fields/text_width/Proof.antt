@@ -1,26 +1,21 @@
+-- `sheet_walk::fields::text_width` meets its contract.
+-- Assumes nothing.
 use mathlib.Core.Path.{refl}
 use Prim.Native.Nat.{ℕ}
-use native.Mathlib.Omega.{arith}
 use lib.ListN.{List·getD-eq-default}
 use borrow.Author.Needs.{needs}
 use Rattle.sheet_walk.proofs.fields.text_width.Statement.{statement}
 use Rattle.sheet_walk.proofs.fields.text_width.Tie as tie
-use Rattle.sheet_walk.proofs.fields.text_width.Reads as reads
-use Rattle.sheet_walk.proofs.fields.text_width.Lts as lts
 
--- src/fields.rt:41:17
 mul-result : tie.Need-mul-result
 mul-result c = search needs
 
--- src/fields.rt:41:17
 shared-slice-read-result : tie.Need-shared-slice-read-result
 shared-slice-read-result c = search needs
 
--- src/fields.rt:41:9
 returns : tie.Need-returns
 returns c = refl
 
--- src/fields.rt:37:1
 returns-2 : tie.Need-returns-2
 returns-2 c = rw (List·getD-eq-default {A = ℕ} _ 0 (c .if1 .left))
 

@@ -1,4 +1,6 @@
-use mathlib.Core.Path.{_≡_, refl, sym, ap, _∙_}
+-- `sheet_walk::items::meet` meets its contract.
+-- Assumes nothing.
+use mathlib.Core.Path.{_≡_, refl, sym}
 use native.Mathlib.Omega.{arith}
 use Prim.Native.Nat.{ℕ, zero, suc, _/_, _<_}
 use Rattle.format_grammar.specs.Items.{Field}
@@ -9,14 +11,6 @@ use Rattle.sheet_walk.proofs.ItemLaws.{literal-length}
 use borrow.Author.Needs.{needs}
 use Rattle.sheet_walk.proofs.items.meet.Statement.{statement}
 use Rattle.sheet_walk.proofs.items.meet.Tie as tie
-use Rattle.sheet_walk.proofs.items.meet.Reads as reads
-use Rattle.sheet_walk.proofs.items.meet.Lts as lts
-use Rattle.sheet_walk.proofs.fields.cover.Reads as cover-reads
-use Rattle.sheet_walk.proofs.fields.field.Reads as field-reads
-use Rattle.sheet_walk.proofs.fields.text_width.Reads as text-width-reads
-use Rattle.sheet_walk.proofs.items.next_record.Reads as next-record-reads
-use Rattle.sheet_walk.proofs.items.skip.Reads as skip-reads
-use Rattle.sheet_walk.proofs.items.tab.Reads as tab-reads
 
 -- none of the kinds before a literal's
 none-of : (n : ℕ) → (((((((Unit {0} × (n ≡ 0 → ⊥)) × (n ≡ 1 → ⊥)) × (n ≡ 2 → ⊥)) × (n ≡ 3 → ⊥)) × (n ≡ 4 → ⊥)) × (n ≡ 5 → ⊥)) × (n ≡ 6 → ⊥)) × (n ≡ 7 → ⊥) → 7 < n
@@ -30,87 +24,68 @@ none-of (suc (suc (suc (suc (suc (suc zero)))))) r = absurd (r .0 .1 refl)
 none-of (suc (suc (suc (suc (suc (suc (suc zero))))))) r = absurd (r .1 refl)
 none-of (suc (suc (suc (suc (suc (suc (suc (suc n)))))))) r = omega arith
 
--- src/items.rt:89:19
 field-requires : tie.Need-field-requires
 field-requires c κs = search needs
 
--- src/items.rt:90:19
 field-requires-2 : tie.Need-field-requires-2
 field-requires-2 c κs = search needs
 
--- src/items.rt:91:19
 field-requires-3 : tie.Need-field-requires-3
 field-requires-3 c κs = search needs
 
--- src/items.rt:92:50
 text-width-requires : tie.Need-text-width-requires
 text-width-requires c κs = search needs
 
--- src/items.rt:92:19
 field-requires-4 : tie.Need-field-requires-4
 field-requires-4 c κs = search needs
 
--- src/items.rt:93:20
 field-requires-5 : tie.Need-field-requires-5
 field-requires-5 c κs = search needs
 
--- src/items.rt:94:19
 skip-requires : tie.Need-skip-requires
 skip-requires c κs = search needs
 
--- src/items.rt:95:19
 tab-requires : tie.Need-tab-requires
 tab-requires c κs = search needs
 
--- src/items.rt:96:23
 next-record-requires : tie.Need-next-record-requires
 next-record-requires c κs = search needs
 
--- src/items.rt:97:14
 cover-requires : tie.Need-cover-requires
 cover-requires c κs = search needs
 
--- src/items.rt:82:1
 returns : tie.Need-returns
 unfolding step
 returns c = λ t h. let w = c .before .before .before .args .word in rw (is-I t w (c .before .match .keys1)) (c .field .ensures (Field.I (firstOf w)) refl refl)
 
--- src/items.rt:82:1
 returns-2 : tie.Need-returns-2
 unfolding step
 returns-2 c = λ t h. let w = c .before .before .before .args .word in rw (is-F t w (c .before .match .keys2)) (c .field2 .ensures (Field.F (firstOf w) (secondOf w)) refl refl)
 
--- src/items.rt:82:1
 returns-3 : tie.Need-returns-3
 unfolding step
 returns-3 c = λ t h. let w = c .before .before .before .args .word in rw (is-L t w (c .before .match .keys3)) (c .field3 .ensures (Field.L (firstOf w)) refl refl)
 
--- src/items.rt:82:1
 returns-4 : tie.Need-returns-4
 unfolding step
 returns-4 c = λ t h. let w = c .before .before .before .before .args .word in rw (is-A t w (c .before .before .match .keys4)) (c .field4 .ensures Field.A refl (sym (c .before .text-width .ensures)))
 
--- src/items.rt:82:1
 returns-5 : tie.Need-returns-5
 unfolding step
 returns-5 c = λ t h. let w = c .before .before .before .args .word in rw (is-Aw t w (c .before .match .keys5)) (c .field5 .ensures (Field.Aw (firstOf w)) refl refl)
 
--- src/items.rt:82:1
 returns-6 : tie.Need-returns-6
 unfolding step
 returns-6 c = λ t h. let w = c .before .before .before .args .word in rw (is-X t w (c .before .match .keys6)) (c .skip .ensures)
 
--- src/items.rt:82:1
 returns-7 : tie.Need-returns-7
 unfolding step
 returns-7 c = λ t h. let w = c .before .before .before .args .word in rw (is-T t w (c .before .match .keys7)) (c .tab .ensures)
 
--- src/items.rt:82:1
 returns-8 : tie.Need-returns-8
 unfolding step
 returns-8 c = λ t h. let w = c .before .before .before .args .word in rw (is-slash t w (c .before .match .keys8)) (c .next-record .ensures)
 
--- src/items.rt:82:1
 returns-9 : tie.Need-returns-9
 unfolding step
 returns-9 c = λ t h. let w = c .before .before .before .args .word in let k : 7 < kindOf w = none-of (kindOf w) (c .before .match .rest) in let e : secondOf w ≡ w / 16 / 1024 = omega arith in rw (is-literal t w k, literal-length t w h k, e) (c .cover .ensures (literal _))

@@ -1,19 +1,16 @@
+-- `sheet_walk::items::next_record` meets its contract.
+-- Assumes nothing.
 use borrow.Author.Tests.{lt-ltb, le-ltb}
 use borrow.Author.Needs.{needs}
 use Rattle.sheet_walk.proofs.items.next_record.Statement.{statement}
 use Rattle.sheet_walk.proofs.items.next_record.Tie as tie
-use Rattle.sheet_walk.proofs.items.next_record.Reads as reads
-use Rattle.sheet_walk.proofs.items.next_record.Lts as lts
 
--- src/items.rt:70:15
 add-row : tie.Need-add-row
 add-row c = search needs
 
--- src/items.rt:72:9
 returns : tie.Need-returns
 returns c = rw (lt-ltb _ _ (c .if1 .taken))
 
--- src/items.rt:66:1
 returns-2 : tie.Need-returns-2
 returns-2 c = rw (le-ltb _ _ (c .if1 .left))
 

@@ -1,3 +1,5 @@
+-- `sheet_walk::turns::advance` meets its contract.
+-- Assumes nothing.
 use mathlib.Core.Path.{sym}
 use mathlib.Core.List.{map}
 use lib.ListN.{length, drop, length-map}
@@ -8,45 +10,31 @@ use Rattle.sheet_walk.proofs.TurnLaws.{turn-item, turn-end}
 use borrow.Author.Needs.{needs}
 use Rattle.sheet_walk.proofs.turns.advance.Statement.{statement}
 use Rattle.sheet_walk.proofs.turns.advance.Tie as tie
-use Rattle.sheet_walk.proofs.turns.advance.Reads as reads
-use Rattle.sheet_walk.proofs.turns.advance.Lts as lts
-use Rattle.sheet_walk.proofs.items.end.Reads as end-reads
-use Rattle.sheet_walk.proofs.items.meet.Reads as meet-reads
-use Rattle.sheet_walk.proofs.turns.onward.Reads as onward-reads
 
--- src/turns.rt:53:28
 mul-meet : tie.Need-mul-meet
 mul-meet c = search needs
 
--- src/turns.rt:53:28
 shared-slice-read-meet : tie.Need-shared-slice-read-meet
 shared-slice-read-meet c = search needs
 
--- src/turns.rt:53:23
 meet-requires : tie.Need-meet-requires
 meet-requires c κs = search needs
 
--- src/turns.rt:53:56
 add-onward : tie.Need-add-onward
 add-onward c = search needs
 
--- src/turns.rt:53:9
 onward-requires : tie.Need-onward-requires
 onward-requires c κs = search needs
 
--- src/turns.rt:53:9
 returns : tie.Need-returns
 returns c = λ t h e. let a = c .before .before .before .before .before .before .before in turn-item t (a .args .words .now) (a .args .back) (a .args .kinds .now) (a .args .rs) (a .args .c) (c .before .before .before .if1 .taken) (c .before .meet .ensures t (word-at (length t) (a .args .words .now) (a .args .c .index) h (c .before .before .before .if1 .taken))) (c .onward .ensures)
 
--- src/turns.rt:55:12
 end-requires : tie.Need-end-requires
 end-requires c κs = search needs
 
--- src/turns.rt:55:5
 onward-requires-2 : tie.Need-onward-requires-2
 onward-requires-2 c κs = search needs
 
--- src/turns.rt:39:1
 returns-2 : tie.Need-returns-2
 returns-2 c = λ t h e. let a = c .before .before .before .before .before .before in turn-end t (a .args .words .now) (a .args .back) (a .args .kinds .now) (a .args .rs) (a .args .c) (c .before .before .if1 .left) (c .before .end .ensures (map kindFrom (a .args .kinds .now)) (drop (a .args .back) (map (metOf t) (a .args .words .now))) (sym (length-map (a .args .kinds .now) kindFrom)) e) (c .onward2 .ensures)
 

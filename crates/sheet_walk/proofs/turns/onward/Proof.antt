@@ -1,42 +1,33 @@
+-- `sheet_walk::turns::onward` meets its contract.
+-- Assumes nothing.
 use borrow.Author.Needs.{needs}
 use Rattle.sheet_walk.proofs.turns.onward.Statement.{statement}
 use Rattle.sheet_walk.proofs.turns.onward.Tie as tie
-use Rattle.sheet_walk.proofs.turns.onward.Reads as reads
-use Rattle.sheet_walk.proofs.turns.onward.Lts as lts
 
--- src/turns.rt:23:21
 enum-known-step : tie.Need-enum-known-step
 enum-known-step c = search needs
 
--- src/turns.rt:24:24
 enum-known-step-2 : tie.Need-enum-known-step-2
 enum-known-step-2 c = search needs
 
--- src/turns.rt:32:23
 enum-known-step-3 : tie.Need-enum-known-step-3
 enum-known-step-3 c = search needs
 
--- src/turns.rt:33:45
 enum-told : tie.Need-enum-told
 enum-told c = search needs
 
--- src/turns.rt:33:45
 add-t12 : tie.Need-add-t12
 add-t12 c = search needs
 
--- src/turns.rt:18:1
 returns : tie.Need-returns
 returns c = rw (c .before .step .given .1)
 
--- src/turns.rt:18:1
 returns-2 : tie.Need-returns-2
 returns-2 c = rw (c .before .step2 .given .1)
 
--- src/turns.rt:18:1
 returns-3 : tie.Need-returns-3
 returns-3 c = rw (c .before .step3 .given .1)
 
--- src/turns.rt:18:1
 returns-4 : tie.Need-returns-4
 returns-4 c = rw (c .before .enum-told .given .1)
 

@@ -1,56 +1,41 @@
-use native.Mathlib.Omega.{arith}
+-- `sheet_write::runs::write_items` meets its contract.
+-- Assumes nothing.
 use lib.ListN.{length}
 use Rattle.sheet_write.proofs.WriteLaws.{no-record, some-record, roomy}
 use borrow.Author.Needs.{needs}
 use Rattle.sheet_write.proofs.runs.write_items.Statement.{statement}
 use Rattle.sheet_write.proofs.runs.write_items.Tie as tie
-use Rattle.sheet_write.proofs.runs.write_items.Reads as reads
-use Rattle.sheet_write.proofs.runs.write_items.Lts as lts
-use Rattle.sheet_write.proofs.runs.write_large.Reads as write-large-reads
-use Rattle.sheet_write.proofs.runs.write_middle.Reads as write-middle-reads
-use Rattle.sheet_write.proofs.runs.write_small.Reads as write-small-reads
 
--- src/runs.rt:156:17
 div-count : tie.Need-div-count
 div-count c = search needs
 
--- src/runs.rt:158:9
 returns : tie.Need-returns
 returns c = let a = c .before .before .before .before .before .before .before in record { wrote = λ vs s h l. no-record (a .args .width) (h .items) (c .if1 .taken) }
 
--- src/runs.rt:162:9
 write-small-requires : tie.Need-write-small-requires
 write-small-requires c κs = let a = c .before .before .before .before .before .before .before .before .before in (roomy (a .args .width) (length (a .args .buffer .now)) (a .pre .0) (a .pre .1) (c .before .before .if1 .left), c .before .if2 .taken, a .pre .2, a .pre .3)
 
--- src/runs.rt:162:9
 same-length : tie.Need-same-length
 same-length c = search needs
 
--- src/runs.rt:162:9
 returns-2 : tie.Need-returns-2
 returns-2 c = let a = c .before .before .before .before .before .before .before .before .before .before .before .before in record { wrote = λ vs s h l. some-record (a .args .width) (h .items) (c .before .before .before .before .before .if1 .left) (c .before .before .write-small .ensures .wrote vs s h l) }
 
--- src/runs.rt:176:9
 write-middle-requires : tie.Need-write-middle-requires
 write-middle-requires c κs = let a = c .before .before .before .before .before .before .before .before .before .before in (roomy (a .args .width) (length (a .args .buffer .now)) (a .pre .0) (a .pre .1) (c .before .before .before .if1 .left), c .before .if3 .taken, a .pre .2, a .pre .3)
 
--- src/runs.rt:176:9
 same-length-2 : tie.Need-same-length-2
 same-length-2 c = search needs
 
--- src/runs.rt:176:9
 returns-3 : tie.Need-returns-3
 returns-3 c = let a = c .before .before .before .before .before .before .before .before .before .before .before .before .before in record { wrote = λ vs s h l. some-record (a .args .width) (h .items) (c .before .before .before .before .before .before .if1 .left) (c .before .before .write-middle .ensures .wrote vs s h l) }
 
--- src/runs.rt:189:5
 write-large-requires : tie.Need-write-large-requires
 write-large-requires c κs = let a = c .before .before .before .before .before .before .before .before .before .before in (roomy (a .args .width) (length (a .args .buffer .now)) (a .pre .0) (a .pre .1) (c .before .before .before .if1 .left), a .pre .2 .held .small, a .pre .2, a .pre .3)
 
--- src/runs.rt:141:1
 same-length-3 : tie.Need-same-length-3
 same-length-3 c = search needs
 
--- src/runs.rt:141:1
 returns-4 : tie.Need-returns-4
 returns-4 c = let a = c .before .before .before .before .before .before .before .before .before .before .before .before .before in record { wrote = λ vs s h l. some-record (a .args .width) (h .items) (c .before .before .before .before .before .before .if1 .left) (c .before .before .write-large .ensures .wrote vs s h l) }
 

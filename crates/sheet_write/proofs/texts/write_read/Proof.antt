@@ -1,73 +1,55 @@
+-- `sheet_write::texts::write_read` meets its contract.
+-- Assumes nothing.
 use Rattle.sheet_write.proofs.WriteLaws.{format-refused, list-refused, both-good}
 use borrow.Author.Needs.{needs}
 use Rattle.sheet_write.proofs.texts.write_read.Statement.{statement}
 use Rattle.sheet_write.proofs.texts.write_read.Tie as tie
-use Rattle.sheet_write.proofs.texts.write_read.Reads as reads
-use Rattle.sheet_write.proofs.texts.write_read.Lts as lts
-use Rattle.format_check.proofs.items.check_items.Reads as check-items-reads
-use Rattle.sheet_write.proofs.runs.write_items.Reads as write-items-reads
 
--- src/texts.rt:31:11
 check-items-requires : tie.Need-check-items-requires
 check-items-requires c κs = search needs
 
--- src/texts.rt:32:31
 enum-known-refusal : tie.Need-enum-known-refusal
 enum-known-refusal c = search needs
 
--- src/texts.rt:33:40
 enum-known-n : tie.Need-enum-known-n
 enum-known-n c = search needs
 
--- src/texts.rt:34:30
 enum-known-check : tie.Need-enum-known-check
 enum-known-check c = search needs
 
--- src/texts.rt:37:17
 enum-told : tie.Need-enum-told
 enum-told c = search needs
 
--- src/texts.rt:35:32
 write-items-requires : tie.Need-write-items-requires
 write-items-requires c κs = let a = c .before .before .before .before .before .before .before .before .before .before .before .before .before .before .before .before .before .before .before .before .before .before in let h = rw (c .before .before .before .before .before .before .n .given .1) at (c .before .before .before .before .before .before .before .before .before .before .before .before .check-items .ensures) in (a .pre .0, a .pre .1, record { format = a .args .format .now; held = h }, record { vs = a .pre .5 .vs; listed = a .pre .5 .listed-if .if-good (c .before .before .before .enum-told .given .1) })
 
--- src/texts.rt:16:1
 same-length : tie.Need-same-length
 same-length c = search needs
 
--- src/texts.rt:16:1
 same-length-2 : tie.Need-same-length-2
 same-length-2 c = search needs
 
--- src/texts.rt:16:1
 returns : tie.Need-returns
 returns c = let a = c .before .before .before .before .before .before .before .before .before .before .before .before .before .before .before .before .before in record { wrote = λ vs l. format-refused (a .args .width) (a .args .check) (rw (c .before .refusal .given .1) at (c .before .before .before .before .before .before .before .check-items .ensures)) }
 
--- src/texts.rt:16:1
 same-length-3 : tie.Need-same-length-3
 same-length-3 c = search needs
 
--- src/texts.rt:16:1
 same-length-4 : tie.Need-same-length-4
 same-length-4 c = search needs
 
--- src/texts.rt:16:1
 returns-2 : tie.Need-returns-2
 returns-2 c = let a = c .before .before .before .before .before .before .before .before .before .before .before .before .before .before .before .before .before .before .before .before in let h = rw (c .before .before .before .before .n .given .1) at (c .before .before .before .before .before .before .before .before .before .before .check-items .ensures) in record { wrote = λ vs l. list-refused (a .args .width) (a .args .check) (h .accepts) (c .before .check .given .1) }
 
--- src/texts.rt:16:1
 same-length-5 : tie.Need-same-length-5
 same-length-5 c = search needs
 
--- src/texts.rt:16:1
 same-length-6 : tie.Need-same-length-6
 same-length-6 c = search needs
 
--- src/texts.rt:16:1
 same-length-7 : tie.Need-same-length-7
 same-length-7 c = search needs
 
--- src/texts.rt:16:1
 returns-3 : tie.Need-returns-3
 returns-3 c = let a = c .before .before .before .before .before .before .before .before .before .before .before .before .before .before .before .before .before .before .before .before .before .before .before .before .before in let h = rw (c .before .before .before .before .before .before .before .before .before .n .given .1) at (c .before .before .before .before .before .before .before .before .before .before .before .before .before .before .before .check-items .ensures) in let g = c .before .before .before .before .before .before .enum-told .given .1 in record { wrote = λ vs l. both-good (a .args .width) (a .args .check) (h .accepts) g (c .before .before .write-items .ensures .wrote vs (a .args .format .now) h (l .if-good g)) }
 

@@ -1,26 +1,17 @@
-use mathlib.Core.Path.{_≡_, refl, sym, ap, _∙_}
+-- `write_passes::fields::put` meets its contract.
+-- Assumes nothing.
+use mathlib.Core.Path.{_≡_, refl, sym, _∙_}
 use mathlib.Core.Logic.{_⊎_, inl, inr}
 use native.Mathlib.Omega.{arith}
-use Prim.Native.Nat.{ℕ, zero, suc, _+_, _/_, _<_, _≤_}
+use Prim.Native.Nat.{ℕ, zero, suc, _<_}
 use lib.IntN.{pos}
 use lib.ListN.{length, getD}
-use Rattle.number.specs.Rounding.{tooLarge}
 use Rattle.format_words.specs.Words.{secondOf}
 use Rattle.write_passes.specs.Placed.{logicalOf, valueAt}
 use Rattle.write_passes.proofs.PutLaws.{I-amount, I-small, I-starred, I-characters, F-amount, F-detail, F-small, F-places, F-wanted, F-large, F-starred, F-characters, L-amount, L-some, L-is, L-starred, L-characters, text-put, literal-inside, literal-starred, literal-characters, as-bits, logical-bits, put-stars, put-bytes}
 use borrow.Author.Needs.{needs}
 use Rattle.write_passes.proofs.fields.put.Statement.{statement}
 use Rattle.write_passes.proofs.fields.put.Tie as tie
-use Rattle.write_passes.proofs.fields.put.Reads as reads
-use Rattle.write_passes.proofs.fields.put.Lts as lts
-use Rattle.buffer.proofs.copy.Reads as copy-reads
-use Rattle.field_written.proofs.decimal.write_decimal.Reads as write-decimal-reads
-use Rattle.field_written.proofs.integer.write_integer.Reads as write-integer-reads
-use Rattle.field_written.proofs.logical.write_logical.Reads as write-logical-reads
-use Rattle.field_written.proofs.text.write_text.Reads as write-text-reads
-use Rattle.write_passes.proofs.fields.is_starred.Reads as is-starred-reads
-use Rattle.write_passes.proofs.fields.second.Reads as second-reads
-use Rattle.write_passes.proofs.fields.truth.Reads as truth-reads
 
 -- the kind of A or Aw
 text-kind : (n : ℕ) → ((Unit {0} × (n ≡ 0 → ⊥)) × (n ≡ 1 → ⊥)) × (n ≡ 2 → ⊥) → n < 5 → (n ≡ 3) ⊎ (n ≡ 4)
@@ -31,99 +22,75 @@ text-kind (suc (suc (suc zero))) r h = inl refl
 text-kind (suc (suc (suc (suc zero)))) r h = inr refl
 text-kind (suc (suc (suc (suc (suc n))))) r h = absurd (omega arith)
 
--- src/fields.rt:81:49
 mul-write-integer : tie.Need-mul-write-integer
 mul-write-integer c = let a = c .before .before .before .before .before .before .before in let h : a .args .i < length (a .args .amounts .now) = I-amount (a .pre .1 .placed .placeable) (c .before .match .keys1) in search needs
 
--- src/fields.rt:81:49
 shared-slice-copy-out-write-integer : tie.Need-shared-slice-copy-out-write-integer
 shared-slice-copy-out-write-integer c = I-amount (c .before .before .before .before .before .before .before .pre .1 .placed .placeable) (c .before .match .keys1)
 
--- src/fields.rt:81:19
 write-integer-requires : tie.Need-write-integer-requires
 write-integer-requires c κs = let a = c .before .before .before .before .before .before .before .before in let s = I-small (a .pre .1 .placed .placeable) (c .before .before .match .keys1) in (a .pre .0, rw (as-bits (getD (a .args .amounts .now) (a .args .i) (pos 0)) s) s)
 
--- src/fields.rt:82:60
 second-requires : tie.Need-second-requires
 second-requires c κs = search needs
 
--- src/fields.rt:82:74
 mul-write-decimal : tie.Need-mul-write-decimal
 mul-write-decimal c = let a = c .before .before .before .before .before .before .before .before in let h : a .args .i < length (a .args .amounts .now) = F-amount (a .pre .1 .placed .placeable) (c .before .before .match .keys2) in search needs
 
--- src/fields.rt:82:74
 shared-slice-copy-out-write-decimal : tie.Need-shared-slice-copy-out-write-decimal
 shared-slice-copy-out-write-decimal c = F-amount (c .before .before .before .before .before .before .before .before .pre .1 .placed .placeable) (c .before .before .match .keys2)
 
--- src/fields.rt:82:86
 mul-write-decimal-2 : tie.Need-mul-write-decimal-2
 mul-write-decimal-2 c = let a = c .before .before .before .before .before .before .before .before .before in let h : a .args .i < length (a .args .details .now) = F-detail (a .pre .1 .placed .placeable) (c .before .before .before .match .keys2) in search needs
 
--- src/fields.rt:82:86
 shared-slice-read-write-decimal : tie.Need-shared-slice-read-write-decimal
 shared-slice-read-write-decimal c = F-detail (c .before .before .before .before .before .before .before .before .before .before .pre .1 .placed .placeable) (c .before .before .before .before .match .keys2)
 
--- src/fields.rt:82:30
 write-decimal-requires : tie.Need-write-decimal-requires
 write-decimal-requires c κs = let a = c .before .before .before .before .before .before .before .before .before .before in let p = a .pre .1 .placed .placeable in let k = c .before .before .before .before .match .keys2 in let s = F-small p k in (a .pre .0, rw (c .before .before .second .ensures) (F-wanted p k), rw (as-bits (getD (a .args .amounts .now) (a .args .i) (pos 0)) s) s, F-places p k)
 
--- src/fields.rt:82:19
 is-starred-requires : tie.Need-is-starred-requires
 is-starred-requires c κs = search needs
 
--- src/fields.rt:84:49
 mul-truth : tie.Need-mul-truth
 mul-truth c = let a = c .before .before .before .before .before .before .before in let h : a .args .i < length (a .args .amounts .now) = L-amount (a .pre .1 .placed .placeable) (c .before .match .keys3) in search needs
 
--- src/fields.rt:84:49
 shared-slice-copy-out-truth : tie.Need-shared-slice-copy-out-truth
 shared-slice-copy-out-truth c = L-amount (c .before .before .before .before .before .before .before .pre .1 .placed .placeable) (c .before .match .keys3)
 
--- src/fields.rt:84:43
 truth-requires : tie.Need-truth-requires
 truth-requires c κs = search needs
 
--- src/fields.rt:84:13
 write-logical-requires : tie.Need-write-logical-requires
 write-logical-requires c κs = let a = c .before .before .before .before .before .before .before .before .before in (a .pre .0, L-some (a .pre .1 .placed .placeable) (c .before .before .before .match .keys3))
 
--- src/fields.rt:93:17
 mul-write-text : tie.Need-mul-write-text
 mul-write-text c = let a = c .before .before .before .before .before .before .before .before in let h : a .args .i < length (a .args .details .now) = text-put (a .pre .1 .placed .placeable) (text-kind _ (c .before .before .match .rest) (c .before .if1 .taken)) .in-details in search needs
 
--- src/fields.rt:93:17
 shared-slice-read-write-text : tie.Need-shared-slice-read-write-text
 shared-slice-read-write-text c = text-put (c .before .before .before .before .before .before .before .before .before .pre .1 .placed .placeable) (text-kind _ (c .before .before .before .match .rest) (c .before .before .if1 .taken)) .in-details
 
--- src/fields.rt:94:18
 mul-write-text-2 : tie.Need-mul-write-text-2
 mul-write-text-2 c = let a = c .before .before .before .before .before .before .before .before .before in let h : a .args .i < length (a .args .kinds .now) = text-put (a .pre .1 .placed .placeable) (text-kind _ (c .before .before .before .match .rest) (c .before .before .if1 .taken)) .in-kinds in search needs
 
--- src/fields.rt:94:18
 shared-slice-read-write-text-2 : tie.Need-shared-slice-read-write-text-2
 shared-slice-read-write-text-2 c = text-put (c .before .before .before .before .before .before .before .before .before .before .pre .1 .placed .placeable) (text-kind _ (c .before .before .before .before .match .rest) (c .before .before .before .if1 .taken)) .in-kinds
 
--- src/fields.rt:88:13
 write-text-requires : tie.Need-write-text-requires
 write-text-requires c κs = let a = c .before .before .before .before .before .before .before .before .before .before in (a .pre .0, text-put (a .pre .1 .placed .placeable) (text-kind _ (c .before .before .before .before .match .rest) (c .before .before .before .if1 .taken)) .inside)
 
--- src/fields.rt:99:13
 copy-requires : tie.Need-copy-requires
 copy-requires c κs = let a = c .before .before .before .before .before .before .before .before in (a .pre .0, literal-inside (a .pre .1 .placed .placeable) (c .before .if1 .left))
 
--- src/fields.rt:64:1
 same-length : tie.Need-same-length
 same-length c = search needs
 
--- src/fields.rt:64:1
 returns : tie.Need-returns
 returns c = let a = c .before .before .before .before .before .before .before .before .before .before .before in let k = c .before .before .before .before .before .match .keys1 in ((λ vs p. let s = as-bits (getD (a .args .amounts .now) (a .args .i) (pos 0)) (I-small (p .placeable) k) in rw s at (c .before .before .write-integer .ensures .0) ∙ sym (I-starred (p .placeable) k)), (λ vs p. let s = as-bits (getD (a .args .amounts .now) (a .args .i) (pos 0)) (I-small (p .placeable) k) in rw (I-characters (p .placeable) k) (rw s at (c .before .before .write-integer .ensures .1))))
 
--- src/fields.rt:64:1
 same-length-2 : tie.Need-same-length-2
 same-length-2 c = search needs
 
--- src/fields.rt:64:1
 returns-2 : tie.Need-returns-2
 returns-2 c =
     let a = c .before .before .before .before .before .before .before .before .before .before .before .before .before .before in
@@ -141,11 +108,9 @@ returns-2 c =
           (a .args .dst .now) (a .args .at))),
     )
 
--- src/fields.rt:64:1
 same-length-3 : tie.Need-same-length-3
 same-length-3 c = search needs
 
--- src/fields.rt:64:1
 returns-3 : tie.Need-returns-3
 returns-3 c =
     let a = c .before .before .before .before .before .before .before .before .before .before .before .before in
@@ -157,11 +122,9 @@ returns-3 c =
           rw (L-characters (p .placeable) k) (rw e at (c .before .before .write-logical .ensures))),
     )
 
--- src/fields.rt:64:1
 same-length-4 : tie.Need-same-length-4
 same-length-4 c = search needs
 
--- src/fields.rt:64:1
 returns-4 : tie.Need-returns-4
 returns-4 c =
     let k = text-kind _ (c .before .before .before .before .before .before .before .match .rest) (c .before .before .before .before .before .before .if1 .taken) in (
@@ -169,11 +132,9 @@ returns-4 c =
       (λ vs p. rw (text-put (p .placeable) k .is) (c .before .before .write-text .ensures)),
     )
 
--- src/fields.rt:64:1
 same-length-5 : tie.Need-same-length-5
 same-length-5 c = search needs
 
--- src/fields.rt:64:1
 returns-5 : tie.Need-returns-5
 returns-5 c =
     let k = c .before .before .before .before .if1 .left in (

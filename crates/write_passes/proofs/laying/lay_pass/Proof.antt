@@ -1,16 +1,18 @@
+-- `write_passes::laying::lay_pass` meets its contract.
+-- Assumes nothing.
 use mathlib.Core.Path.{_≡_, refl, sym, ap, subst, _∙_}
-use mathlib.Core.Bool.{Bool, true, false, cond}
+use mathlib.Core.Bool.{Bool, cond}
 use mathlib.Core.List.{List, map}
 use native.Mathlib.Omega.{arith}
 use native.Mathlib.Nat.{add-zero, zero-add}
-use Prim.Native.Nat.{ℕ, _+_, _*_, _<_, _≤_}
+use Prim.Native.Nat.{ℕ, _+_, _<_}
 use lib.ListN.{length, getD, length-map}
 use borrow.Author.Needs.{needs}
 use Rattle.buffer.specs.Splice.{splice}
 use Rattle.format_words.specs.Words.{metOf}
 use Rattle.list_elements.specs.Apart.{kindFrom}
 use Rattle.list_elements.specs.declared.Value.{Value}
-use Rattle.sheet_walk.specs.Walk.{Trace, walk}
+use Rattle.sheet_walk.specs.Walk.{Trace}
 use Rattle.sheet_walk.specs.Laid.{laid}
 use Rattle.sheet_walk.specs.Turns.{sheetOf}
 use Rattle.sheet_walk.specs.declared.Cursor.{Cursor}
@@ -24,11 +26,6 @@ use Rattle.write_passes.proofs.CheckLaws.{in-words, what-is, placeable}
 use Rattle.write_passes.proofs.LayLaws.{few-starred, Laying, laid-more, stars-more, put-accepted, put-room}
 use Rattle.write_passes.proofs.laying.lay_pass.Statement.{statement}
 use Rattle.write_passes.proofs.laying.lay_pass.Tie as tie
-use Rattle.write_passes.proofs.laying.lay_pass.Reads as reads
-use Rattle.write_passes.proofs.laying.lay_pass.Lts as lts
-use Rattle.sheet_walk.proofs.items.has_field.Reads as has-field-reads
-use Rattle.sheet_walk.proofs.turns.advance.Reads as advance-reads
-use Rattle.write_passes.proofs.fields.put.Reads as put-reads
 
 abbrev Inv-loop : tie.InvT-loop
 Inv-loop dst₀ words back chars area kinds amounts details rs part starred₀ c₀ dst starred c = ((vs : List Value) (q : Passed chars area vs words back kinds amounts details rs) → Laying chars area vs words back kinds rs (q .n) dst₀ dst starred c) × (length dst ≡ length dst₀)
@@ -105,88 +102,67 @@ goes-on c {a} {w} {n} e b stars bytes g vs q =
       stars = omega (arith, g, m, s);
     }
 
--- src/laying.rt:36:9
 has-field-requires : tie.Need-has-field-requires Inv-loop μ-loop
 has-field-requires c κs = search needs
 
--- src/laying.rt:46:5
 loop-holds : tie.Need-loop-holds Inv-loop μ-loop
 loop-holds c = let a = c .before .before .before .before .before .before .before in ((λ vs q. let e = passes.first-walk (a .args .chars .now) (a .args .words .now) (a .args .back) (a .args .kinds .now) (a .args .rs) (q .ready .loaded) in record { stands = passes.first-stands (a .args .chars .now) (a .args .words .now) (a .args .back) (a .args .kinds .now) (a .args .rs) (q .ready .loaded); accepts = ap (judged vs) e ∙ q .accepts; bytes = ap (λ (x : Trace). laid (a .args .rs .width) (characters (a .args .area .now) vs) x (a .args .dst .now)) e; stars = ap (λ (x : Trace). 0 + starredIn vs x) e ∙ zero-add _ }), refl)
 
--- src/laying.rt:47:13
 advance-requires : tie.Need-advance-requires Inv-loop μ-loop
 advance-requires c κs = let a = c .before .before .before .before .before .before .before .before in let q = a .pre .1 in passes.standing (a .args .chars .now) (a .args .words .now) (a .args .back) (a .args .kinds .now) (a .args .rs) (q .passed .ready .loaded) (c .loop .c .state) (c .loop .inv .0 (q .vs) (q .passed) .stands)
 
--- src/laying.rt:49:24
 enum-known-turn : tie.Need-enum-known-turn Inv-loop μ-loop
 enum-known-turn c = search needs
 
--- src/laying.rt:46:5
 loop-less : tie.Need-loop-less Inv-loop μ-loop
 loop-less c = let k = c .before .before .before in let a = start k in let q = a .pre .1 in passes.fewer (a .args .chars .now) (a .args .words .now) (a .args .back) (a .args .kinds .now) (a .args .rs) (q .passed .ready .loaded) (c .before .turn .given .0 .0) (k .before .loop .c) (known k (turn.Goes _) (c .before .turn .given .1) (q .vs) (q .passed) .2)
 
--- src/laying.rt:46:5
 loop-again : tie.Need-loop-again Inv-loop μ-loop
 loop-again c = let k = c .before .before .before in let a = start k in ((λ vs q. let n = known k (turn.Goes _) (c .before .turn .given .1) vs q in let l = k .before .loop .inv .0 vs q in record { stands = n .1; accepts = sym (ap (judged vs) (n .0)) ∙ l .accepts; bytes = sym (ap (λ (x : Trace). laid (a .args .rs .width) (characters (a .args .area .now) vs) x (k .before .loop .dst)) (n .0)) ∙ l .bytes; stars = sym (ap (λ (x : Trace). k .before .loop .starred + starredIn vs x) (n .0)) ∙ l .stars }), k .before .loop .inv .1)
 
--- src/laying.rt:52:28
 enum-known-turn-2 : tie.Need-enum-known-turn-2 Inv-loop μ-loop
 enum-known-turn-2 c = search needs
 
--- src/laying.rt:59:21
 mul-put : tie.Need-mul-put Inv-loop μ-loop
 mul-put c = let k = c .before .before .before .before .before in let a = start k in let q = a .pre .1 in let n = known k (turn.Covers _ _ _) (c .before .before .before .turn2 .given .1) (q .vs) (q .passed) in let h : k .before .loop .c .index < length (a .args .words .now) = in-words (a .args .back) (q .passed .ready) (k .before .loop .c) (n .0) _ (n .4) (n .5) in search needs
 
--- src/laying.rt:59:21
 shared-slice-read-put : tie.Need-shared-slice-read-put Inv-loop μ-loop
 shared-slice-read-put c = let k = c .before .before .before .before .before .before in let a = start k in let q = a .pre .1 in let n = known k (turn.Covers _ _ _) (c .before .before .before .before .turn2 .given .1) (q .vs) (q .passed) in in-words (a .args .back) (q .passed .ready) (k .before .loop .c) (n .0) _ (n .4) (n .5)
 
--- src/laying.rt:55:20
 put-requires : tie.Need-put-requires Inv-loop μ-loop
 put-requires c κs = let k = c .before .before .before .before .before .before in let a = start k in let q = a .pre .1 in let n = known k (turn.Covers _ _ _) (c .before .before .before .before .turn2 .given .1) (q .vs) (q .passed) in let l = k .before .loop .inv .0 (q .vs) (q .passed) in let t = a .args .chars .now in let r = put-room (sheetOf t (a .args .words .now) (a .args .back) (a .args .kinds .now) (a .args .rs)) _ (k .before .loop .c .state) _ (n .0) (passes.walkable t (a .args .words .now) (a .args .back) (a .args .kinds .now) (a .args .rs) (q .passed .ready .loaded)) (l .stands) (n .5) in (omega (arith, r, n .6, n .7, a .pre .0, k .before .loop .inv .1), record { vs = q .vs; placed = placed k (c .before .before .before .before .turn2 .given .1) (q .vs) (q .passed) })
 
--- src/laying.rt:67:21
 add-starred : tie.Need-add-starred Inv-loop μ-loop
 add-starred c = let k = c .before .before .before .before .before .before .before .before .before .before in let a = start k in let q = a .pre .1 in let l = k .before .loop .inv .0 (q .vs) (q .passed) in let h = sheetOf (a .args .chars .now) (a .args .words .now) (a .args .back) (a .args .kinds .now) (a .args .rs) in let f = few-starred h (q .vs) (q .passed .n) (q .passed .accepts) in let e : length (map kindFrom (a .args .kinds .now)) ≡ length (a .args .kinds .now) = length-map (a .args .kinds .now) kindFrom in omega (arith, f, e, l .stars, q .passed .ready .loaded .few)
 
--- src/laying.rt:46:5
 loop-less-2 : tie.Need-loop-less-2 Inv-loop μ-loop
 loop-less-2 c = let k = c .before .before .before .before .before .before .before .before .before .before in let a = start k in let q = a .pre .1 in passes.fewer (a .args .chars .now) (a .args .words .now) (a .args .back) (a .args .kinds .now) (a .args .rs) (q .passed .ready .loaded) (c .before .before .before .before .before .before .before .before .turn2 .given .0 .1 .1 .0) (k .before .loop .c) (known k (turn.Covers _ _ _) (c .before .before .before .before .before .before .before .before .turn2 .given .1) (q .vs) (q .passed) .3)
 
--- src/laying.rt:46:5
 loop-again-2 : tie.Need-loop-again-2 Inv-loop μ-loop
 loop-again-2 c = let k = c .before .before .before .before .before .before .before .before .before .before in (goes-on k (c .before .before .before .before .before .before .before .before .turn2 .given .1) (c .before .before .before .put .result) (c .before .before .before .put .ensures .0) (c .before .before .before .put .ensures .1) (rw (c .if1 .taken)), c .before .before .before .put .kept .0 ∙ k .before .loop .inv .1)
 
--- src/laying.rt:46:5
 loop-less-3 : tie.Need-loop-less-3 Inv-loop μ-loop
 loop-less-3 c = let k = c .before .before .before .before .before .before .before .before .before .before in let a = start k in let q = a .pre .1 in passes.fewer (a .args .chars .now) (a .args .words .now) (a .args .back) (a .args .kinds .now) (a .args .rs) (q .passed .ready .loaded) (c .before .before .before .before .before .before .before .before .turn2 .given .0 .1 .1 .0) (k .before .loop .c) (known k (turn.Covers _ _ _) (c .before .before .before .before .before .before .before .before .turn2 .given .1) (q .vs) (q .passed) .3)
 
--- src/laying.rt:46:5
 loop-again-3 : tie.Need-loop-again-3 Inv-loop μ-loop
 loop-again-3 c = let k = c .before .before .before .before .before .before .before .before .before .before in (goes-on k (c .before .before .before .before .before .before .before .before .turn2 .given .1) (c .before .before .before .put .result) (c .before .before .before .put .ensures .0) (c .before .before .before .put .ensures .1) (rw (c .if1 .left) (omega arith)), c .before .before .before .put .kept .0 ∙ k .before .loop .inv .1)
 
--- src/laying.rt:74:17
 enum-told : tie.Need-enum-told Inv-loop μ-loop
 enum-told c = search needs
 
--- src/laying.rt:74:17
 same-length : tie.Need-same-length Inv-loop μ-loop
 same-length c = c .before .before .before .loop .inv .1
 
--- src/laying.rt:74:17
 returns : tie.Need-returns Inv-loop μ-loop
 unfolding laid starredIn
 returns c = let k = c .before .before in let a = start k in ((λ vs q. let e = known k (turn.Refused _) (c .enum-told .given .1) vs q in let l = k .before .loop .inv .0 vs q in sym (add-zero _) ∙ sym (ap (λ (y : Trace). k .before .loop .starred + starredIn vs y) e) ∙ l .stars), (λ vs q. let e = known k (turn.Refused _) (c .enum-told .given .1) vs q in let l = k .before .loop .inv .0 vs q in sym (ap (λ (y : Trace). laid (a .args .rs .width) (characters (a .args .area .now) vs) y (k .before .loop .dst)) e) ∙ l .bytes))
 
--- src/laying.rt:77:17
 enum-told-2 : tie.Need-enum-told-2 Inv-loop μ-loop
 enum-told-2 c = search needs
 
--- src/laying.rt:77:17
 same-length-2 : tie.Need-same-length-2 Inv-loop μ-loop
 same-length-2 c = c .before .before .before .loop .inv .1
 
--- src/laying.rt:77:17
 returns-2 : tie.Need-returns-2 Inv-loop μ-loop
 unfolding laid starredIn
 returns-2 c = let k = c .before .before in let a = start k in ((λ vs q. let e = known k (turn.Ends _) (c .enum-told2 .given .1) vs q in let l = k .before .loop .inv .0 vs q in sym (add-zero _) ∙ sym (ap (λ (y : Trace). k .before .loop .starred + starredIn vs y) e) ∙ l .stars), (λ vs q. let e = known k (turn.Ends _) (c .enum-told2 .given .1) vs q in let l = k .before .loop .inv .0 vs q in sym (ap (λ (y : Trace). laid (a .args .rs .width) (characters (a .args .area .now) vs) y (k .before .loop .dst)) e) ∙ l .bytes))
