@@ -1,3 +1,5 @@
 pub mod LimitLaws
 pub mod ApartLaws
 pub mod Taking
+pub mod RowSix
+pub mod Promises

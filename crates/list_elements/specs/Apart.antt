@@ -1,5 +1,5 @@
 -- A list taken apart into three lists of numbers, so that one core serves any list: for each element a kind, an amount and a
--- detail.
+-- detail. (Nothing here need be believed: the contracts of public calls speak of the list.)
 -- Assumes nothing.
 use mathlib.Core.Bool.{Bool, true, false, cond}
 use mathlib.Core.Path.{_≡_}

@@ -1,3 +1,4 @@
 pub mod Elements
 pub mod Limits
 pub mod Apart
+pub mod Promises

@@ -40,7 +40,7 @@ unfoldable pub firstBad : List ℕ → ℕ → List Value → ListCheck
 firstBad area i [] = Good
 firstBad area i (v ∷ vs) = cond (withinLimits area v) (firstBad area (i + 1) vs) (Bad i)
 
--- 'if none': a count over the limit is told there
+-- 'if none': a count over the limit is refused, with the limit as its place
 abbrev pub overLimit : ℕ → ℕ → ListCheck → ListCheck
 overLimit most count Good = cond (ltb most count) (Bad most) Good
 overLimit most count (Bad p) = Bad p

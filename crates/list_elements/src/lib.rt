@@ -40,7 +40,7 @@ impl List {
     pub const MOST: usize = 64;
 
     // The largest magnitude of an integer and of a decimal's units.
-    pub const LARGEST: i64 = 999_999_999_999_999_999;
+    pub const LARGEST: i64 = number::LARGEST as i64;
 
     // The empty list.
     pub fn empty() -> Self

@@ -5,6 +5,7 @@ pub mod Twice
 pub mod SpliceLaws
 pub mod Windows
 pub mod FieldRanges
+pub mod Refusing
 pub mod Promises
 pub mod AnswerLaws
 pub mod ItemLaws

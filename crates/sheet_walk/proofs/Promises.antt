@@ -1,7 +1,8 @@
 -- The theorems on the walk that specs/Promises.antt states.
 -- Assumes nothing.
-use Rattle.sheet_walk.specs.Promises.{EndIs, ReturnTakes, CoversInside, CoversReached, ElementsSuited, PutsEach, LiteralsWide, RefusedAt, CoveredTwiceIs, ColumnsKept}
+use Rattle.sheet_walk.specs.Promises.{EndIs, ReturnTakes, ItemRefusedIs, EndRefusedIs, CoversInside, CoversReached, ElementsSuited, PutsEach, LiteralsWide, RefusedAt, CoveredTwiceIs, ColumnsKept}
 use Rattle.sheet_walk.proofs.Returns
+use Rattle.sheet_walk.proofs.Refusing
 use Rattle.sheet_walk.proofs.Covering
 use Rattle.sheet_walk.proofs.Twice
 use Rattle.sheet_walk.proofs.Windows
@@ -13,6 +14,14 @@ end-is = Returns.end-is
 
 pub return-takes : ReturnTakes
 return-takes = Returns.return-takes
+
+-- ---- what is refused
+
+pub item-refused-is : ItemRefusedIs
+item-refused-is = Refusing.item-refused-is
+
+pub end-refused-is : EndRefusedIs
+end-refused-is = Refusing.end-refused-is
 
 -- ---- what is covered
 

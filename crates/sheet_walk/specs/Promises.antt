@@ -7,27 +7,55 @@ use mathlib.Core.List.{List, [], _∷_}
 use Prim.Native.Nat.{ℕ, zero, suc, _+_, _*_, _<_, _≤_}
 use lib.ListN.{length, getD}
 use Rattle.format_grammar.specs.Items.{Field}
+use Rattle.format_grammar.specs.Met.{Met}
 use Rattle.format_grammar.specs.Promises.{AllMetWithin}
 use Rattle.list_elements.specs.Elements.{Kind, integer}
 use Rattle.sheet_walk.specs.Refusals.{refusalPlace}
-use Rattle.sheet_walk.specs.Steps.{What, element, literal, Placement, suits, fieldWidth}
+use Rattle.sheet_walk.specs.Steps.{What, element, literal, Placement, suits, fieldWidth, refused, step, hasField, endStep}
 use Rattle.sheet_walk.specs.Walk.{Sheet, Trace, put, done, stopped, return, atEnd, walk}
 use Rattle.sheet_walk.specs.Columns.{In, CoveredTwice, coveredTwice}
 use Rattle.sheet_walk.specs.Laid.{laid, columns}
 use Rattle.sheet_walk.specs.declared.Refusal.{Refusal}
+use Rattle.sheet_walk.specs.declared.Refusal.the-variants as refusal
+use Rattle.sheet_walk.specs.declared.Records.{Records}
 use Rattle.sheet_walk.specs.declared.State.{State}
 
 -- ---- the walk is total
 
 -- at the end of the format the walk ends, is refused, or goes on with the part to return to, and at the end of that part in
--- the same way: the count in `returns` is never felt
+-- the same way, however many returns there are
 abbrev pub EndIs : Type 0
 EndIs = (h : Sheet) (s : State) → atEnd h s ≡ return h (atEnd h) s
 
--- each return takes at least one element, or is refused: what follows matters only where more elements are taken
+-- each return takes at least one element before the part's end, unless the walk ends or is refused before it: what follows
+-- the part's end matters only where more elements are taken
 abbrev pub ReturnTakes : Type 0
 ReturnTakes =
     (h : Sheet) (s : State) (next other : State → Trace) → ((n : State) → s .taken < n .taken → next n ≡ other n) → return h next s ≡ return h other s
+
+-- ---- what is refused, in the order of the checks: 'At one field the order is 7, 8'; 'at a return, 10 before 9'
+
+-- why an item met at s is refused
+pub data ItemRefused (kinds : List Kind) (rs : Records) (s : State) : Met → Refusal → Type 0 where
+  wrong-kind : {f : Field ℕ} → s .taken < length kinds → suits f (getD kinds (s .taken) integer) ≡ false → ItemRefused kinds rs s (Met.field f) (refusal.Kind (s .taken))
+  field-columns : {f : Field ℕ} → s .taken < length kinds → suits f (getD kinds (s .taken) integer) ≡ true
+      → rs .width + 1 < s .column + fieldWidth f (getD kinds (s .taken) integer) → ItemRefused kinds rs s (Met.field f) (refusal.Column (s .taken))
+  literal-columns : {cs : List ℕ} → rs .width + 1 < s .column + length cs → ItemRefused kinds rs s (Met.literal cs) (refusal.Column (s .taken))
+  X-column : {n : ℕ} → rs .width + 1 < s .column + n → ItemRefused kinds rs s (Met.X n) (refusal.Column (s .taken))
+  T-column : {n : ℕ} → rs .width < n → ItemRefused kinds rs s (Met.T n) (refusal.Column (s .taken))
+  slash-record : rs .count ≤ s .row + 1 → ItemRefused kinds rs s Met.slash (refusal.NextRecord (s .taken))
+
+abbrev pub ItemRefusedIs : Type 0
+ItemRefusedIs = (kinds : List Kind) (rs : Records) (x : Met) (s : State) (why : Refusal) → (step kinds rs x s ≡ refused why) ↔ ItemRefused kinds rs s x why
+
+-- why the walk is refused at the end of the format
+pub data EndRefused (kinds : List Kind) (rs : Records) (part : List Met) (s : State) : Refusal → Type 0 where
+  no-field : s .taken < length kinds → hasField part ≡ false → EndRefused kinds rs part s (refusal.NoField (s .taken))
+  no-record : s .taken < length kinds → hasField part ≡ true → rs .count ≤ s .row + 1 → EndRefused kinds rs part s (refusal.NextRecord (s .taken))
+
+abbrev pub EndRefusedIs : Type 0
+EndRefusedIs =
+    (kinds : List Kind) (rs : Records) (part : List Met) (s : State) (why : Refusal) → (endStep kinds rs part s ≡ refused why) ↔ EndRefused kinds rs part s why
 
 -- ---- what is covered
 
@@ -100,6 +128,7 @@ RefusedAt = (h : Sheet) (why : Refusal) → StopsWith why (walk h) → refusalPl
 
 -- ---- columns covered twice
 
+-- the test for a column covered twice is met exactly where some column is
 abbrev pub CoveredTwiceIs : Type 0
 CoveredTwiceIs = (t : Trace) → (coveredTwice t ≡ true) ↔ ((r : ℕ) × (c : ℕ) × CoveredTwice r c t)
 

@@ -93,7 +93,7 @@ fieldWidth (Field.Aw w) k = w
 -- ---- the steps
 
 -- 'A covered column is at most R. After X or a covering item the column is at most R + 1': w columns, one or more, from the
--- column c on end before c + w, so that both say that c + w is at most R + 1
+-- column c on end before c + w, so that both say that c + w is at most R + 1. `taken` elements are taken afterwards.
 abbrev pub coverStep : Records → State → What → ℕ → ℕ → Step
 coverStep rs s what w taken =
     cond (leb (s .column + w) (rs .width + 1))

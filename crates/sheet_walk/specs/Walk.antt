@@ -36,12 +36,12 @@ after (covers p n) s next = put p (next n)
 after (refused why) s next = stopped why
 after ends s next = done (s .row + 1)
 
--- the items up to the end of the format, and `next` from there on
+-- the items up to the end of the format; `next` says what follows there
 unfoldable pub pass : Sheet → (State → Trace) → List Met → State → Trace
 pass h next [] s = next s
 pass h next (x ∷ xs) s = after (step (h .kinds) (h .records) x s) s (pass h next xs)
 
--- the end of the format, and `next` at the next one
+-- the end of the format, and the part to return to; `next` says what follows at the part's end
 abbrev pub return : Sheet → (State → Trace) → State → Trace
 return h next s = after (endStep (h .kinds) (h .records) (h .part) s) s (pass h next (h .part))
 
@@ -57,3 +57,8 @@ atEnd h s = returns h (length (h .kinds)) s
 -- 'Items are met in order'
 unfoldable pub walk : Sheet → Trace
 walk h = pass h (atEnd h) (h .items) start
+
+-- An example: (I2) with two integers and two records. The first I2 covers columns 1 and 2 of record 0 with element 0; at the
+-- end of the format an element is left, so the walk goes to record 1 and returns to the whole format; I2 covers columns 1 and
+-- 2 of record 1 with element 1; at the end none remains, and two records were reached:
+-- put (element 0, record 0, column 1, width 2) (put (element 1, record 1, column 1, width 2) (done 2))

@@ -12,8 +12,20 @@ ghost use Prim.Native.Nat.{ℕ, _<_, _^_};
 ghost use lib.ListN.{length, drop};
 ghost use Rattle.format_words.specs.Words.{metOf};
 ghost use Rattle.format_run.specs.Runs.{RunWords};
-ghost use Rattle.sheet_walk.specs.Steps.{hasField};
-ghost use Rattle.sheet_walk.specs.Turns.{Standing, sheetOf, onwardAnswer, turnOf};
+ghost use Rattle.sheet_walk.specs.Steps.{start, hasField};
+ghost use Rattle.sheet_walk.specs.Turns.{Standing, cursor, sheetOf, onwardAnswer, turnOf};
+
+// The cursor at the start of the walk.
+pub fn first_cursor() -> Cursor
+    ensures { λ r. ⌜ r ≡ cursor 0 start ⌝ }
+{
+    let state = State {
+        row: 0,
+        column: 1,
+        taken: 0,
+    };
+    Cursor { index: 0, state }
+}
 
 // After a step, the walk goes on at the item of an index.
 fn onward(step: Step, s: State, index: usize) -> Turn

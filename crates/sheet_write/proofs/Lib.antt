@@ -1,3 +1,4 @@
+pub mod Rounds
 pub mod Accepted
 pub mod Starred
 pub mod Bytes

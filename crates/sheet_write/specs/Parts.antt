@@ -1,4 +1,5 @@
--- What the inner functions of writing are given, and what they do.
+-- What the inner functions of writing are given, and what they do. (Nothing here need be believed: the public call's contract
+-- does not speak of it.)
 -- Assumes nothing.
 use mathlib.Core.Path.{_≡_}
 use mathlib.Core.List.{List, map}

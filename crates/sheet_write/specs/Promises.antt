@@ -5,28 +5,29 @@ use mathlib.Core.Logic.{_↔_}
 use mathlib.Core.Bool.{Bool, true, false}
 use mathlib.Core.List.{List, map}
 use Prim.Native.Nat.{ℕ, _+_, _-_, _*_, _/_, _<_, _≤_}
-use lib.IntN.{ℤ}
+use lib.IntN.{ℤ, natAbs}
 use lib.ListN.{length, drop, getD, replicate}
 use Rattle.buffer.specs.Characters.{blank, asterisk}
+use Rattle.number.specs.Limits.{largest}
 use Rattle.number.specs.Rounding.{Nearest}
 use Rattle.field_written.specs.Numeral.{Numeric, plain, Numeral, standsFor}
 use Rattle.format_grammar.specs.Items.{Field, Items}
-use Rattle.format_grammar.specs.Promises.{Acceptable}
+use Rattle.format_grammar.specs.Promises.{Acceptable, Answers}
 use Rattle.list_elements.specs.Elements.{kindOf, values}
 use Rattle.list_elements.specs.Limits.{listCheck}
 use Rattle.list_elements.specs.declared.Decimal.{Decimal}
 use Rattle.list_elements.specs.declared.Value.{Value}
 use Rattle.list_elements.specs.declared.Value.the-variants as value
 use Rattle.list_elements.specs.declared.List as carried
-use Rattle.list_elements.specs.declared.ListCheck.the-variants.{Good}
+use Rattle.list_elements.specs.declared.ListCheck.the-variants.{Good, Bad}
 use Rattle.sheet_walk.specs.Refusals.{refusalNumber, refusalPlace}
 use Rattle.sheet_walk.specs.Steps.{element, Placement}
 use Rattle.sheet_walk.specs.Walk.{Trace, put, done, stopped, sheet, walk}
 use Rattle.sheet_walk.specs.Columns.{In, coveredTwice, LastCovers, Uncovered}
 use Rattle.sheet_walk.specs.Laid.{offset, columns}
-use Rattle.sheet_walk.specs.Promises.{EndsWith, elementsPut, numbersFrom}
+use Rattle.sheet_walk.specs.Promises.{EndsWith, Inside, Suited, StopsWith, elementsPut, numbersFrom}
 use Rattle.sheet_walk.specs.declared.Refusal.{Refusal}
-use Rattle.write_passes.specs.Placed.{fieldTooLarge, valueAt, characters}
+use Rattle.write_passes.specs.Placed.{valueAt, characters}
 use Rattle.sheet_write.specs.Writing.{Writing, accepts, refuses, writing, writeAnswer, writeBuffer, answerNumber, answerPlace, answerRecords, answerStarred}
 use Rattle.sheet_write.specs.declared.Written.{Written}
 
@@ -40,8 +41,8 @@ pub record Call : Type 0 where
   pub buffer : List ℕ
 
 -- the values of its list, what becomes of it, what it answers, and the buffer afterwards
-abbrev pub vs : Call → List Value
-vs c = values (c .list)
+abbrev pub valuesOf : Call → List Value
+valuesOf c = values (c .list)
 
 abbrev pub becomes : Call → Writing
 becomes c = writing (c .R) (c .format) (c .list) (c .area) (length (c .buffer))
@@ -58,26 +59,84 @@ recordsNumber c = answerRecords (answerTo c)
 abbrev pub bufferAfter : Call → List ℕ
 bufferAfter c = writeBuffer (c .R) (c .format) (c .list) (c .area) (c .buffer)
 
--- ---- what is accepted
+-- ---- which row answers, with its number and its place: 'Rows apply in this order down to the first walk row; then the first
+-- refusal on the walk counts'
 
--- every row is passed, up to the walk of the format's items, which ends with n records and rounds no decimal to units too large
-pub record Accepted (c : Call) (t : Trace) (n : ℕ) : Type 0 where
-  pub xs : Items
+-- row 1 is passed
+pub record WidthRight (c : Call) : Type 0 where
   pub from : 1 ≤ c .R
   pub to : c .R ≤ 255
+
+-- every row before the walk is passed, the format's items being xs
+pub record Walks (c : Call) (xs : Items) : Type 0 where
+  pub width : WidthRight c
   pub format : Acceptable (c .format) xs
   pub list : listCheck (c .area) (c .list) ≡ Good
   pub some-record : 0 < length (c .buffer) / c .R
-  pub walks : t ≡ walk (sheet xs (map kindOf (vs c)) (record { width = c .R; count = length (c .buffer) / c .R }))
+
+-- its walk
+abbrev pub walkOf : Call → Items → Trace
+walkOf c xs = walk (sheet xs (map kindOf (valuesOf c)) (record { width = c .R; count = length (c .buffer) / c .R }))
+
+-- 'The rounded units must have magnitude at most 10^18 − 1': what a placement puts is no decimal that is rounded beyond that
+abbrev pub RoundsWithin : List Value → Placement → Type 0
+RoundsWithin vs p =
+    (i u d : ℕ) (x : Decimal) → p .what ≡ element i (Field.F u d) → valueAt vs i ≡ value.Decimal x → (r : ℤ) → Nearest (x .units) (x .places) d r → natAbs r ≤ largest
+
+-- the first placement that does is that of element i
+pub data TooLargeAt (vs : List Value) (i : ℕ) : Trace → Type 0 where
+  here : {p : Placement} {t : Trace} {f : Field ℕ} → p .what ≡ element i f → (RoundsWithin vs p → ⊥) → TooLargeAt vs i (put p t)
+  there : {p : Placement} {t : Trace} → RoundsWithin vs p → TooLargeAt vs i t → TooLargeAt vs i (put p t)
+
+-- every row is passed, and the walk t ends with n records
+pub record AcceptableCall (c : Call) (t : Trace) (n : ℕ) : Type 0 where
+  pub xs : Items
+  pub walks : Walks c xs
+  pub is : t ≡ walkOf c xs
   pub ends : EndsWith n t
-  pub small : (p : Placement) → In p t → (i : ℕ) (f : Field ℕ) → p .what ≡ element i f → fieldTooLarge f (valueAt (vs c) i) ≡ false
+  pub rounds : (p : Placement) → In p t → RoundsWithin (valuesOf c) p
 
+-- what answers with a number and a place: acceptance, or a row
+pub data AnsweredBy (c : Call) : ℕ → ℕ → Type 0 where
+  acceptable : {t : Trace} {n : ℕ} → AcceptableCall c t n → AnsweredBy c 0 0
+  wrong-width : (WidthRight c → ⊥) → AnsweredBy c 1 0
+  wrong-format : {k p : ℕ} → WidthRight c → (k ≡ 0 → ⊥) → Answers (c .format) k p → AnsweredBy c k p
+  bad-element : {xs : Items} {p : ℕ} → WidthRight c → Acceptable (c .format) xs → listCheck (c .area) (c .list) ≡ Bad p → AnsweredBy c 6 p
+  no-record : {xs : Items} → WidthRight c → Acceptable (c .format) xs → listCheck (c .area) (c .list) ≡ Good → length (c .buffer) / c .R ≡ 0 → AnsweredBy c 9 0
+  refused-walk : {xs : Items} {why : Refusal} → Walks c xs → StopsWith why (walkOf c xs) → ((p : Placement) → In p (walkOf c xs) → RoundsWithin (valuesOf c) p)
+      → AnsweredBy c (refusalNumber why) (refusalPlace why)
+  too-large : {xs : Items} {i : ℕ} → Walks c xs → TooLargeAt (valuesOf c) i (walkOf c xs) → AnsweredBy c 11 i
+
+-- every call is accepted or refused by one row
+abbrev pub AlwaysAnswered : Type 0
+AlwaysAnswered = (c : Call) → AnsweredBy c (answerNumber (answerTo c)) (answerPlace (answerTo c))
+
+-- what is accepted
 abbrev pub AcceptsExactly : Type 0
-AcceptsExactly = (c : Call) (t : Trace) (n : ℕ) → (becomes c ≡ accepts t n) ↔ Accepted c t n
+AcceptsExactly = (c : Call) (t : Trace) (n : ℕ) → (becomes c ≡ accepts t n) ↔ AcceptableCall c t n
 
--- then every element of the list is put once, in order
+-- 'A refusal carries number and place, and besides them zero records, zero starred ..; every lent byte is then as before the
+-- call.' (The format and the text area are lent so that no call can change them.)
+abbrev pub RefusedSo : Type 0
+RefusedSo =
+    (c : Call) (why : Refusal) → becomes c ≡ refuses why → (answerNumber (answerTo c) ≡ refusalNumber why)
+    × (answerPlace (answerTo c) ≡ refusalPlace why)
+    × (recordsNumber c ≡ 0)
+    × (starredNumber c ≡ 0)
+    × (bufferAfter c ≡ c .buffer)
+
+-- ---- what an accepted writing puts
+
+-- every element of the list once, in order
 abbrev pub ElementsPut : Type 0
-ElementsPut = (c : Call) (t : Trace) (n : ℕ) → becomes c ≡ accepts t n → elementsPut t ≡ numbersFrom 0 (length (vs c))
+ElementsPut = (c : Call) (t : Trace) (n : ℕ) → becomes c ≡ accepts t n → elementsPut t ≡ numbersFrom 0 (length (valuesOf c))
+
+-- each in columns of the records written, as many characters as columns, and an element under a field that its kind suits
+abbrev pub PlacedRight : Type 0
+PlacedRight =
+    (c : Call) (t : Trace) (n : ℕ) → becomes c ≡ accepts t n → (p : Placement) → In p t → Inside (c .R) n p
+    × (length (characters (c .area) (valuesOf c) p) ≡ p .width)
+    × ((i : ℕ) (f : Field ℕ) → p .what ≡ element i f → Suited (map kindOf (valuesOf c)) i f (p .width))
 
 -- ---- demand 3 of the order, first half
 
@@ -88,24 +147,25 @@ numeric (Field.L w) = false
 numeric Field.A = false
 numeric (Field.Aw w) = false
 
--- 'no numeral of its width stands for the value rounded as its descriptor says', w being the columns that the field covers
-pub data NoNumeral (v : Value) (w : ℕ) : Field ℕ → Type 0 where
-  integer : {n : ℤ} {u : ℕ} → v ≡ value.Integer n → ((t : Numeral plain Numeric.I w) → standsFor t ≡ n → ⊥) → NoNumeral v w (Field.I u)
-  decimal : {x : Decimal} {u d : ℕ} → v ≡ value.Decimal x → ((t : Numeral plain (Numeric.F d) w) → Nearest (x .units) (x .places) d (standsFor t) → ⊥) → NoNumeral v w (Field.F u d)
+-- 'no numeral of its width stands for the value rounded as its descriptor says'
+pub data NoNumeral (v : Value) : Field ℕ → Type 0 where
+  integer : {n : ℤ} {w : ℕ} → v ≡ value.Integer n → ((t : Numeral plain Numeric.I w) → standsFor t ≡ n → ⊥) → NoNumeral v (Field.I w)
+  decimal : {x : Decimal} {w d : ℕ} → v ≡ value.Decimal x → ((t : Numeral plain (Numeric.F d) w) → Nearest (x .units) (x .places) d (standsFor t) → ⊥)
+      → NoNumeral v (Field.F w d)
 
 -- 'In every accepted writing .. a numeric field puts asterisks in all its columns, overwritten later or not, exactly when no
 -- numeral of its width stands for the value rounded as its descriptor says.'
 abbrev pub StarsExactlyWhen : Type 0
 StarsExactlyWhen =
     (c : Call) (t : Trace) (n : ℕ) → becomes c ≡ accepts t n → (p : Placement) → In p t → (i : ℕ) (f : Field ℕ) → p .what ≡ element i f
-    → numeric f ≡ true → (characters (c .area) (vs c) p ≡ replicate (p .width) asterisk) ↔ NoNumeral (valueAt (vs c) i) (p .width) f
+    → numeric f ≡ true → (characters (c .area) (valuesOf c) p ≡ replicate (p .width) asterisk) ↔ NoNumeral (valueAt (valuesOf c) i) f
 
 -- a placement of such a field
 pub record Unrepresentable (vs : List Value) (p : Placement) : Type 0 where
   pub i : ℕ
   pub f : Field ℕ
   pub is : p .what ≡ element i f
-  pub none : NoNumeral (valueAt vs i) (p .width) f
+  pub none : NoNumeral (valueAt vs i) f
 
 -- k of the walk's placements are such
 pub data Counted (P : Placement → Type 0) : Trace → ℕ → Type 0 where
@@ -116,7 +176,7 @@ pub data Counted (P : Placement → Type 0) : Trace → ℕ → Type 0 where
 
 -- 'The starred number in the result is the number of these fields.'
 abbrev pub StarredIsTheirNumber : Type 0
-StarredIsTheirNumber = (c : Call) (t : Trace) (n : ℕ) → becomes c ≡ accepts t n → Counted (Unrepresentable (vs c)) t (starredNumber c)
+StarredIsTheirNumber = (c : Call) (t : Trace) (n : ℕ) → becomes c ≡ accepts t n → Counted (Unrepresentable (valuesOf c)) t (starredNumber c)
 
 -- ---- records and bytes
 
@@ -129,7 +189,7 @@ RecordsReached =
 abbrev pub LastHolds : Type 0
 LastHolds =
     (c : Call) (t : Trace) (n : ℕ) → becomes c ≡ accepts t n → (p : Placement) (r k : ℕ) → LastCovers p r k t
-    → getD (bufferAfter c) (offset (c .R) r k) 0 ≡ getD (characters (c .area) (vs c) p) (k - p .column) 0
+    → getD (bufferAfter c) (offset (c .R) r k) 0 ≡ getD (characters (c .area) (valuesOf c) p) (k - p .column) 0
 
 -- 'Each is blank apart from what was put there'
 abbrev pub BlankElsewhere : Type 0
@@ -141,19 +201,9 @@ BlankElsewhere =
 abbrev pub ColumnsHold : Type 0
 ColumnsHold =
     (c : Call) (t : Trace) (n : ℕ) → becomes c ≡ accepts t n → coveredTwice t ≡ false → (p : Placement) → In p t
-    → columns (c .R) p (bufferAfter c) ≡ characters (c .area) (vs c) p
+    → columns (c .R) p (bufferAfter c) ≡ characters (c .area) (valuesOf c) p
 
 -- 'Bytes after the last written record keep their contents', and the buffer its length
 abbrev pub RestKept : Type 0
 RestKept =
     (c : Call) (t : Trace) (n : ℕ) → becomes c ≡ accepts t n → (length (bufferAfter c) ≡ length (c .buffer)) × (drop (n * c .R) (bufferAfter c) ≡ drop (n * c .R) (c .buffer))
-
--- 'A refusal carries number and place, and besides them zero records, zero starred ..; every lent byte is then as before the
--- call.'
-abbrev pub RefusedSo : Type 0
-RefusedSo =
-    (c : Call) (why : Refusal) → becomes c ≡ refuses why → (answerNumber (answerTo c) ≡ refusalNumber why)
-    × (answerPlace (answerTo c) ≡ refusalPlace why)
-    × (recordsNumber c ≡ 0)
-    × (starredNumber c ≡ 0)
-    × (bufferAfter c ≡ c .buffer)

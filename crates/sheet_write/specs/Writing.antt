@@ -28,7 +28,7 @@ pub data Writing : Type 0 where
   accepts : Trace → (records : ℕ) → Writing
   refuses : Refusal → Writing
 
--- what is made of a walk and how it ends
+-- a walk and how it ends, as a writing
 abbrev pub concluded : Trace → Judged → Writing
 concluded t (accepted n) = accepts t n
 concluded t (refused why) = refuses why
@@ -73,7 +73,7 @@ abbrev pub answerOf : List Value → Writing → Written
 answerOf vs (accepts t n) = answer.Accepted n (starredIn vs t)
 answerOf vs (refuses why) = answer.Refused why
 
--- 'every lent byte is then as before the call'
+-- the buffer afterwards: the records written; refused, 'every lent byte is then as before the call'
 abbrev pub bufferOf : ℕ → List ℕ → List Value → List ℕ → Writing → List ℕ
 bufferOf R area vs buffer (accepts t n) = written R (characters area vs) t n buffer
 bufferOf R area vs buffer (refuses why) = buffer
@@ -86,7 +86,7 @@ writeAnswer R format l area buffer = answerOf (values l) (writing R format l are
 abbrev pub writeBuffer : ℕ → List ℕ → carried.List → List ℕ → List ℕ → List ℕ
 writeBuffer R format l area buffer = bufferOf R area (values l) buffer (writing R format l area (length buffer))
 
--- ---- document 01's number, place, records and starred: 'A refusal carries number and place, and besides them zero records,
+-- ---- document 01's number, place, records and starred of a writing, and then of the code's answer: 'A refusal carries number and place, and besides them zero records,
 -- zero starred'; 0 where an accepted writing has no number and place
 
 abbrev pub writingNumber : Writing → ℕ
@@ -106,7 +106,7 @@ abbrev pub writingStarred : List Value → Writing → ℕ
 writingStarred vs (accepts t n) = starredIn vs t
 writingStarred vs (refuses why) = 0
 
--- the same of each answer
+-- of each answer
 abbrev pub answerNumber : Written → ℕ
 answerNumber (answer.Accepted n k) = 0
 answerNumber (answer.Refused why) = refusalNumber why

@@ -1,4 +1,5 @@
--- What the two passes over the walk are given, as words and numbers, and what the checking pass answers.
+-- What the two passes over the walk are given, as words and numbers, and what the checking pass answers. (Nothing here need be
+-- believed: the public call's contract does not speak of it.)
 -- Assumes nothing.
 use mathlib.Core.Path.{_≡_}
 use mathlib.Core.Bool.{Bool, true, false}

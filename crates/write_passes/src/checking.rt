@@ -1,13 +1,12 @@
 // The checking pass: how the walk ends. Nothing is stored.
 use crate::Ending;
 use crate::fields::too_large;
-use sheet_walk::Cursor;
 use sheet_walk::Records;
 use sheet_walk::Refusal;
-use sheet_walk::State;
 use sheet_walk::Turn;
 use sheet_walk::items::has_field;
 use sheet_walk::turns::advance;
+use sheet_walk::turns::first_cursor;
 ghost use mathlib.Core.Path.{_≡_};
 ghost use mathlib.Core.List.{List};
 ghost use Prim.Native.Nat.{ℕ};
@@ -29,14 +28,7 @@ pub fn check_pass(
     ensures { λ r. ⌜ ((t area : List ℕ) (vs : List Value) → Ready t area vs (now (words .entry)) (now (kinds .entry)) (now (amounts .entry)) (now (details .entry)) rs → r ≡ endingOf (judged vs (walk (sheetOf t (now (words .entry)) back (now (kinds .entry)) rs)))) ⌝ }
 {
     let part = has_field(words, back);
-    let mut c = Cursor {
-        index: 0,
-        state: State {
-            row: 0,
-            column: 1,
-            taken: 0,
-        },
-    };
+    let mut c = first_cursor();
     loop {
         let turn = advance(words, back, part, kinds, rs, c);
         match turn {

@@ -1,11 +1,10 @@
 // The laying pass, for a walk that was accepted.
 use crate::fields::put;
-use sheet_walk::Cursor;
 use sheet_walk::Records;
-use sheet_walk::State;
 use sheet_walk::Turn;
 use sheet_walk::items::has_field;
 use sheet_walk::turns::advance;
+use sheet_walk::turns::first_cursor;
 ghost use mathlib.Core.Path.{_≡_};
 ghost use mathlib.Core.List.{List};
 ghost use Prim.Native.Nat.{_*_, _≤_};
@@ -35,14 +34,7 @@ pub fn lay_pass(
 {
     let part = has_field(words, back);
     let mut starred: usize = 0;
-    let mut c = Cursor {
-        index: 0,
-        state: State {
-            row: 0,
-            column: 1,
-            taken: 0,
-        },
-    };
+    let mut c = first_cursor();
     loop {
         let turn = advance(words, back, part, kinds, rs, c);
         match turn {

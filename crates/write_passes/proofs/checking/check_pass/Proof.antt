@@ -23,7 +23,7 @@ abbrev μ-loop : tie.MeasureT-loop
 μ-loop words back kinds amounts details rs part c₀ c = wordTurns words kinds c
 
 abbrev start : tie.After-advance Inv-loop μ-loop → tie.Start Inv-loop μ-loop
-start c = c .before .before .before .before .before .before
+start c = c .before .before .before .before .before .before .before
 
 -- what the answer of `advance` says
 known : (c : tie.After-advance Inv-loop μ-loop) (u : Turn) → c .advance .result ≡ u → (t area : List ℕ) (vs : List Value)
@@ -32,16 +32,19 @@ known : (c : tie.After-advance Inv-loop μ-loop) (u : Turn) → c .advance .resu
 known c u e t area vs r =
     passed t (start c .args .words .now) (start c .args .back) (start c .args .kinds .now) (start c .args .rs) (r .loaded) (c .before .loop .c)
     (c .before .loop .inv t area vs r .stands) (c .advance .result) u
-    (c .advance .ensures t (r .loaded .sound) (c .before .before .has-field .ensures t)) e
+    (c .advance .ensures t (r .loaded .sound) (c .before .before .before .has-field .ensures t)) e
 
 has-field-requires : tie.Need-has-field-requires Inv-loop μ-loop
 has-field-requires c κs = search needs
 
+first-cursor-requires : tie.Need-first-cursor-requires Inv-loop μ-loop
+first-cursor-requires c κs = search needs
+
 loop-holds : tie.Need-loop-holds Inv-loop μ-loop
-loop-holds c = λ t area vs r. let a = c .before .before .before .before in record { stands = first-stands t (a .args .words .now) (a .args .back) (a .args .kinds .now) (a .args .rs) (r .loaded); left = ap (judged vs) (first-walk t (a .args .words .now) (a .args .back) (a .args .kinds .now) (a .args .rs) (r .loaded)) }
+loop-holds c = rw (c .first-cursor .ensures) (λ t area vs r. let a = c .before .before .before .before .before in record { stands = first-stands t (a .args .words .now) (a .args .back) (a .args .kinds .now) (a .args .rs) (r .loaded); left = ap (judged vs) (first-walk t (a .args .words .now) (a .args .back) (a .args .kinds .now) (a .args .rs) (r .loaded)) })
 
 advance-requires : tie.Need-advance-requires Inv-loop μ-loop
-advance-requires c κs = let a = c .before .before .before .before .before in let q = a .pre in standing (q .t) (a .args .words .now) (a .args .back) (a .args .kinds .now) (a .args .rs) (q .ready .loaded) (c .loop .c .state) (c .loop .inv (q .t) (q .area) (q .vs) (q .ready) .stands)
+advance-requires c κs = let a = c .before .before .before .before .before .before in let q = a .pre in standing (q .t) (a .args .words .now) (a .args .back) (a .args .kinds .now) (a .args .rs) (q .ready .loaded) (c .loop .c .state) (c .loop .inv (q .t) (q .area) (q .vs) (q .ready) .stands)
 
 enum-known-turn : tie.Need-enum-known-turn Inv-loop μ-loop
 enum-known-turn c = search needs
@@ -94,6 +97,7 @@ check-pass-spec =
     Inv-loop
     μ-loop
     has-field-requires
+    first-cursor-requires
     loop-holds
     advance-requires
     enum-known-turn

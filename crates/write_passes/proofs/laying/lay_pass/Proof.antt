@@ -34,7 +34,7 @@ abbrev μ-loop : tie.MeasureT-loop
 μ-loop dst₀ words back chars area kinds amounts details rs part starred₀ c₀ dst starred c = passes.wordTurns words kinds c
 
 abbrev start : tie.After-advance Inv-loop μ-loop → tie.Start Inv-loop μ-loop
-start c = c .before .before .before .before .before .before .before .before .before
+start c = c .before .before .before .before .before .before .before .before .before .before
 
 -- the walk was accepted, for the values vs
 abbrev Accepted : tie.After-advance Inv-loop μ-loop → List Value → Type 0
@@ -50,7 +50,7 @@ known c u e vs q =
     let t = start c .args .chars .now in
     passes.passed t (start c .args .words .now) (start c .args .back) (start c .args .kinds .now) (start c .args .rs) (q .ready .loaded) (c .before .loop .c)
     (c .before .loop .inv .0 vs q .stands) (c .advance .result) u
-    (c .advance .ensures t (q .ready .loaded .sound) (c .before .before .has-field .ensures t)) e
+    (c .advance .ensures t (q .ready .loaded .sound) (c .before .before .before .has-field .ensures t)) e
 
 -- the word of the next item, its element, and the walk from a cursor on
 abbrev word : tie.After-advance Inv-loop μ-loop → ℕ
@@ -105,11 +105,14 @@ goes-on c {a} {w} {n} e b stars bytes g vs q =
 has-field-requires : tie.Need-has-field-requires Inv-loop μ-loop
 has-field-requires c κs = search needs
 
+first-cursor-requires : tie.Need-first-cursor-requires Inv-loop μ-loop
+first-cursor-requires c κs = search needs
+
 loop-holds : tie.Need-loop-holds Inv-loop μ-loop
-loop-holds c = let a = c .before .before .before .before .before .before .before in ((λ vs q. let e = passes.first-walk (a .args .chars .now) (a .args .words .now) (a .args .back) (a .args .kinds .now) (a .args .rs) (q .ready .loaded) in record { stands = passes.first-stands (a .args .chars .now) (a .args .words .now) (a .args .back) (a .args .kinds .now) (a .args .rs) (q .ready .loaded); accepts = ap (judged vs) e ∙ q .accepts; bytes = ap (λ (x : Trace). laid (a .args .rs .width) (characters (a .args .area .now) vs) x (a .args .dst .now)) e; stars = ap (λ (x : Trace). 0 + starredIn vs x) e ∙ zero-add _ }), refl)
+loop-holds c = rw (c .first-cursor .ensures) (let a = c .before .before .before .before .before .before .before .before in ((λ vs q. let e = passes.first-walk (a .args .chars .now) (a .args .words .now) (a .args .back) (a .args .kinds .now) (a .args .rs) (q .ready .loaded) in record { stands = passes.first-stands (a .args .chars .now) (a .args .words .now) (a .args .back) (a .args .kinds .now) (a .args .rs) (q .ready .loaded); accepts = ap (judged vs) e ∙ q .accepts; bytes = ap (λ (x : Trace). laid (a .args .rs .width) (characters (a .args .area .now) vs) x (a .args .dst .now)) e; stars = ap (λ (x : Trace). 0 + starredIn vs x) e ∙ zero-add _ }), refl))
 
 advance-requires : tie.Need-advance-requires Inv-loop μ-loop
-advance-requires c κs = let a = c .before .before .before .before .before .before .before .before in let q = a .pre .1 in passes.standing (a .args .chars .now) (a .args .words .now) (a .args .back) (a .args .kinds .now) (a .args .rs) (q .passed .ready .loaded) (c .loop .c .state) (c .loop .inv .0 (q .vs) (q .passed) .stands)
+advance-requires c κs = let a = c .before .before .before .before .before .before .before .before .before in let q = a .pre .1 in passes.standing (a .args .chars .now) (a .args .words .now) (a .args .back) (a .args .kinds .now) (a .args .rs) (q .passed .ready .loaded) (c .loop .c .state) (c .loop .inv .0 (q .vs) (q .passed) .stands)
 
 enum-known-turn : tie.Need-enum-known-turn Inv-loop μ-loop
 enum-known-turn c = search needs
@@ -174,6 +177,7 @@ lay-pass-spec =
     Inv-loop
     μ-loop
     has-field-requires
+    first-cursor-requires
     loop-holds
     advance-requires
     enum-known-turn
