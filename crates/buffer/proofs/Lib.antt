@@ -1,1 +1,2 @@
 pub mod Splicing
+pub mod SpliceBytes

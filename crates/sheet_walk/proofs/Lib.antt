@@ -2,7 +2,6 @@ pub mod StepLaws
 pub mod Returns
 pub mod Covering
 pub mod Twice
-pub mod SpliceLaws
 pub mod Windows
 pub mod FieldRanges
 pub mod Refusing

@@ -18,7 +18,7 @@ use Rattle.sheet_walk.specs.Walk.{Trace, put, done, stopped}
 use Rattle.sheet_walk.specs.Columns.{In, here, there, share, sharesWith, coveredTwice}
 use Rattle.sheet_walk.specs.Laid.{offsetOf, laid, columns}
 use Rattle.sheet_walk.specs.Promises.{Inside, ColumnsKept}
-use Rattle.sheet_walk.proofs.SpliceLaws.{length-splice, splice-before, splice-inside, splice-after}
+use Rattle.buffer.proofs.SpliceBytes.{length-splice, splice-before, splice-inside, splice-after}
 use Rattle.sheet_walk.proofs.Twice.{neither, apart-in, meeting}
 
 -- ---- where placements stand in a buffer

@@ -15,7 +15,7 @@ use Rattle.sheet_walk.specs.Walk.{Trace, put}
 use Rattle.sheet_walk.specs.Columns.{Covers, In, LastCovers, Uncovered}
 use Rattle.sheet_walk.specs.Laid.{offset, offsetOf, laid, blanked, written}
 use Rattle.sheet_walk.specs.Promises.{Inside}
-use Rattle.sheet_walk.proofs.SpliceLaws.{length-splice, splice-inside}
+use Rattle.buffer.proofs.SpliceBytes.{length-splice, splice-inside}
 use Rattle.sheet_walk.proofs.Windows.{record-room, inside-room, Outside, AllFit, laid-outside}
 
 -- ---- n records blanked

@@ -10,11 +10,11 @@ use Rattle.sheet_walk.proofs.Windows.{length-laid, drop-laid}
 use Rattle.sheet_walk.proofs.Promises.{columns-kept}
 use Rattle.write_passes.specs.Placed.{characters}
 use Rattle.sheet_write.specs.Writing.{Writing, accepts, answerOf, answerNumber, answerPlace, answerRecords, answerStarred, bufferOf}
-use Rattle.sheet_write.specs.Promises.{Call, valuesOf, becomes, AcceptableCall, AnsweredBy, AlwaysAnswered, AcceptsExactly, RefusedSo, ElementsPut, PlacedRight, Unrepresentable, Counted, StarsExactlyWhen, StarredIsTheirNumber, RecordsReached, LastHolds, BlankElsewhere, ColumnsHold, RestKept}
+use Rattle.sheet_write.specs.Promises.{Call, valuesOf, becomes, AcceptableCall, AnsweredBy, AlwaysAnswered, AcceptsExactly, RefusedSo, ElementsPut, PlacedRight, Unrepresentable, Counted, StarsExactlyWhen, NumeralsShown, StarredIsTheirNumber, RecordsReached, LastHolds, BlankElsewhere, ColumnsHold, RestKept}
 use Rattle.sheet_write.proofs.Accepted.{some-reached, room, all-fit, all-suited, puts-all}
 use Rattle.sheet_write.proofs.Bytes.{length-blanked, drop-blanked, written-last, written-blank}
 use Rattle.sheet_write.proofs.Calls.{Came, came, passes, buffer-is}
-use Rattle.sheet_write.proofs.Starred.{field-stars, counted}
+use Rattle.sheet_write.proofs.Starred.{field-stars, field-shows, counted}
 
 -- ---- which row answers
 
@@ -59,6 +59,10 @@ placed-right c t n e p m =
 
 pub stars-exactly-when : StarsExactlyWhen
 stars-exactly-when c t n e p m i f q g = rw q (field-stars (c .area) (valuesOf c) i f (p .width) (all-suited (acceptable c t n e) p m i f q) g)
+
+pub numerals-shown : NumeralsShown
+numerals-shown c t n e p m i f q g none =
+    rw q (field-shows (c .area) (valuesOf c) i f (p .width) (all-suited (acceptable c t n e) p m i f q) g none)
 
 pub starred-is-their-number : StarredIsTheirNumber
 starred-is-their-number c t n e =

@@ -3,10 +3,10 @@
 use mathlib.Core.Path.{_≡_, refl, sym, ap, _∙_}
 use mathlib.Core.Bool.{Bool, true, false, cond}
 use mathlib.Core.List.{List}
-use Prim.Native.Nat.{ℕ, _≤_}
+use Prim.Native.Nat.{ℕ, _<_, _≤_}
 use native.Mathlib.Nat.{zero-mul}
 use native.Mathlib.Omega.{arith}
-use borrow.Author.Tests.{le-ltb}
+use borrow.Author.Tests.{le-ltb, ltb-true}
 use lib.IntN.{ℤ, pos, natAbs}
 use Rattle.number.specs.Limits.{largest}
 use Rattle.number.specs.Rounding.{Nearest, roundedUnits, tooLarge}
@@ -54,6 +54,26 @@ field-small (Field.L w) v h = refl
 field-small Field.A v h = refl
 field-small (Field.Aw w) v h = refl
 
+-- a value too large under a field is a decimal under F that rounds to more than the largest units
+abbrev Large : Field ℕ → Value → Type 0
+Large f v = (u : ℕ) × (d : ℕ) × (x : Decimal) × (r : ℤ) × (f ≡ Field.F u d) × (v ≡ value.Decimal x) × Nearest (x .units) (x .places) d r × (largest < natAbs r)
+
+clash : {A : Type 0} {b : Bool} → b ≡ true → b ≡ false → A
+clash e f = let z : _≡_ {A = ℕ} 0 1 = cc in absurd (omega arith)
+
+field-large : (f : Field ℕ) (v : Value) → fieldTooLarge f v ≡ true → Large f v
+unfolding fieldTooLarge tooLarge
+field-large (Field.I w) v e = clash e refl
+field-large (Field.F w d) (value.Integer n) e = clash e (zero-small d)
+field-large (Field.F w d) (value.Decimal x) e =
+    let r : ℤ = roundedUnits (x .units) (x .places) d in
+    (w, d, x, r, refl, refl, rounded-is (x .units) (x .places) d r .1 refl, ltb-true largest (natAbs r) e)
+field-large (Field.F w d) (value.Logical b) e = clash e (zero-small d)
+field-large (Field.F w d) (value.Text t) e = clash e (zero-small d)
+field-large (Field.L w) v e = clash e refl
+field-large Field.A v e = clash e refl
+field-large (Field.Aw w) v e = clash e refl
+
 -- ---- one placement
 
 -- where it rounds within the limit, the check of its value passes
@@ -78,9 +98,6 @@ pub data Told (vs : List Value) (t : Trace) : Judged → Type 0 where
   ends : {n : ℕ} → EndsWith n t → AllRound vs t → Told vs t (accepted n)
   stops : {why : Refusal} → StopsWith why t → AllRound vs t → Told vs t (refused why)
   large : {i : ℕ} → TooLargeAt vs i t → Told vs t (refused (TooLarge i))
-
-true-false : {b : Bool} → b ≡ true → b ≡ false → ⊥
-true-false e f = let z : _≡_ {A = ℕ} 0 1 = cc in omega arith
 
 -- a literal has no value to round
 literal-rounds : (vs : List Value) (p : Placement) (cs : List ℕ) → p .what ≡ literal cs → RoundsWithin vs p
@@ -108,7 +125,9 @@ told-put : (vs : List Value) (p : Placement) (t : Trace) (j : Judged) → Told v
 told-put vs p t j rest = go (p .what) refl
   where
     test : (i : ℕ) (f : Field ℕ) → p .what ≡ element i f → (b : Bool) → fieldTooLarge f (valueAt vs i) ≡ b → Told vs (put p t) (cond b (refused (TooLarge i)) j)
-    test i f q true e = Told.large (TooLargeAt.here q (λ r. true-false e (rounds-small vs p r i f q)))
+    test i f q true e =
+        let l = field-large f (valueAt vs i) e in
+        Told.large (TooLargeAt.here (q ∙ ap (element i) (l .4)) (l .5) (l .6) (l .7))
     test i f q false e = told-after (element-rounds vs p i f q e) rest
 
     go : (what : What) → p .what ≡ what → Told vs (put p t) (judgedAt vs what j)

@@ -24,7 +24,7 @@ use Rattle.sheet_walk.specs.Walk.{Trace, put, done, stopped}
 use Rattle.sheet_walk.specs.Columns.{In, here, there}
 use Rattle.sheet_walk.specs.Promises.{Suited}
 use Rattle.write_passes.specs.Placed.{integerOf, decimalOf, valueAt, fieldCharacters, fieldStarred, starredOf, isStarred, starredIn}
-use Rattle.sheet_write.specs.Promises.{numeric, NoNumeral, Unrepresentable, Counted}
+use Rattle.sheet_write.specs.Promises.{numeric, NoNumeral, Shows, Unrepresentable, Counted}
 
 clash : {A : Type 0} → false ≡ true → A
 clash e = let z : _≡_ {A = ℕ} 0 1 = cc in absurd (omega arith)
@@ -85,6 +85,34 @@ starred-none (Field.L w) k v s = (clash, elim [ ])
 starred-none Field.A k v s = (clash, elim [ ])
 starred-none (Field.Aw w) k v s = (clash, elim [ ])
 
+-- where there is a numeral, the field is one
+not-starred : (f : Field ℕ) (k : Kind) (v : Value) → suits f (kindOf v) ≡ true → (NoNumeral v f → ⊥) → fieldStarred f (fieldWidth f k) v ≡ false
+not-starred f k v s none = go (fieldStarred f (fieldWidth f k) v) refl
+  where
+    go : (b : Bool) → fieldStarred f (fieldWidth f k) v ≡ b → fieldStarred f (fieldWidth f k) v ≡ false
+    go true e = absurd (none (starred-none f k v s .0 e))
+    go false e = e
+
+shows : (area : List ℕ) (f : Field ℕ) (k : Kind) (v : Value) → suits f (kindOf v) ≡ true → numeric f ≡ true → (NoNumeral v f → ⊥)
+    → Shows v (fieldCharacters area f (fieldWidth f k) v) f
+unfolding fieldCharacters fieldStarred
+shows area (Field.I w) k (value.Integer n) s e none =
+    let u = fields.unstarred-is-numeral plain Numeric.I w n (not-starred (Field.I w) k (value.Integer n) s none) in
+    Shows.integer-shown (u .0) refl (u .1) (u .2)
+shows area (Field.I w) k (value.Decimal x) s e none = clash s
+shows area (Field.I w) k (value.Logical b) s e none = clash s
+shows area (Field.I w) k (value.Text t) s e none = clash s
+shows area (Field.F w d) k (value.Integer n) s e none = clash s
+shows area (Field.F w d) k (value.Decimal x) s e none =
+    let r : ℤ = roundedUnits (x .units) (x .places) d in
+    let u = fields.unstarred-is-numeral plain (Numeric.F d) w r (not-starred (Field.F w d) k (value.Decimal x) s none) in
+    Shows.decimal-shown (u .0) refl (rounded-is (x .units) (x .places) d r .1 refl) (u .1) (u .2)
+shows area (Field.F w d) k (value.Logical b) s e none = clash s
+shows area (Field.F w d) k (value.Text t) s e none = clash s
+shows area (Field.L w) k v s e none = clash e
+shows area Field.A k v s e none = clash e
+shows area (Field.Aw w) k v s e none = clash e
+
 -- ---- a placement, its field having an element of its kind
 
 suited-value : (vs : List Value) {i : ℕ} {f : Field ℕ} {w : ℕ} → Suited (map kindOf vs) i f w → suits f (kindOf (valueAt vs i)) ≡ true
@@ -93,6 +121,10 @@ suited-value vs {i} {f} s = ap (suits f) (sym (List·getD-map kindOf vs i zeroVa
 pub field-stars : (area : List ℕ) (vs : List Value) (i : ℕ) (f : Field ℕ) (w : ℕ) → Suited (map kindOf vs) i f w → numeric f ≡ true
     → (fieldCharacters area f w (valueAt vs i) ≡ replicate w asterisk) ↔ NoNumeral (valueAt vs i) f
 field-stars area vs i f w s e = rw (s .wide) (stars-none area f (getD (map kindOf vs) i integer) (valueAt vs i) (suited-value vs s) e)
+
+pub field-shows : (area : List ℕ) (vs : List Value) (i : ℕ) (f : Field ℕ) (w : ℕ) → Suited (map kindOf vs) i f w → numeric f ≡ true → (NoNumeral (valueAt vs i) f → ⊥)
+    → Shows (valueAt vs i) (fieldCharacters area f w (valueAt vs i)) f
+field-shows area vs i f w s e none = rw (s .wide) (shows area f (getD (map kindOf vs) i integer) (valueAt vs i) (suited-value vs s) e none)
 
 field-starred : (vs : List Value) (i : ℕ) (f : Field ℕ) (w : ℕ) → Suited (map kindOf vs) i f w → (fieldStarred f w (valueAt vs i) ≡ true) ↔ NoNumeral (valueAt vs i) f
 field-starred vs i f w s = rw (s .wide) (starred-none f (getD (map kindOf vs) i integer) (valueAt vs i) (suited-value vs s))

@@ -11,6 +11,8 @@ use Rattle.buffer.specs.Characters.{blank, asterisk}
 use Rattle.number.specs.Limits.{largest}
 use Rattle.number.specs.Rounding.{Nearest}
 use Rattle.field_written.specs.Numeral.{Numeric, plain, Numeral, standsFor}
+use Rattle.field_written.specs.Numeral as numeral
+use Rattle.field_written.specs.Promises.{AsWritten}
 use Rattle.format_grammar.specs.Items.{Field, Items}
 use Rattle.format_grammar.specs.Promises.{Acceptable, Answers}
 use Rattle.list_elements.specs.Elements.{kindOf, values}
@@ -83,9 +85,10 @@ abbrev pub RoundsWithin : List Value → Placement → Type 0
 RoundsWithin vs p =
     (i u d : ℕ) (x : Decimal) → p .what ≡ element i (Field.F u d) → valueAt vs i ≡ value.Decimal x → (r : ℤ) → Nearest (x .units) (x .places) d r → natAbs r ≤ largest
 
--- the first placement that does is that of element i
+-- the first placement that does is that of element i. (By the law `RoundedIs` of `number` a decimal has one r that is nearest.)
 pub data TooLargeAt (vs : List Value) (i : ℕ) : Trace → Type 0 where
-  here : {p : Placement} {t : Trace} {f : Field ℕ} → p .what ≡ element i f → (RoundsWithin vs p → ⊥) → TooLargeAt vs i (put p t)
+  here : {p : Placement} {t : Trace} {u d : ℕ} {x : Decimal} {r : ℤ} → p .what ≡ element i (Field.F u d) → valueAt vs i ≡ value.Decimal x
+      → Nearest (x .units) (x .places) d r → largest < natAbs r → TooLargeAt vs i (put p t)
   there : {p : Placement} {t : Trace} → RoundsWithin vs p → TooLargeAt vs i t → TooLargeAt vs i (put p t)
 
 -- every row is passed, and the walk t ends with n records
@@ -107,7 +110,7 @@ pub data AnsweredBy (c : Call) : ℕ → ℕ → Type 0 where
       → AnsweredBy c (refusalNumber why) (refusalPlace why)
   too-large : {xs : Items} {i : ℕ} → Walks c xs → TooLargeAt (valuesOf c) i (walkOf c xs) → AnsweredBy c 11 i
 
--- every call is accepted or refused by one row
+-- every call is accepted, or refused by a row whose condition holds after the rows before it
 abbrev pub AlwaysAnswered : Type 0
 AlwaysAnswered = (c : Call) → AnsweredBy c (answerNumber (answerTo c)) (answerPlace (answerTo c))
 
@@ -160,7 +163,20 @@ StarsExactlyWhen =
     (c : Call) (t : Trace) (n : ℕ) → becomes c ≡ accepts t n → (p : Placement) → In p t → (i : ℕ) (f : Field ℕ) → p .what ≡ element i f
     → numeric f ≡ true → (characters (c .area) (valuesOf c) p ≡ replicate (p .width) asterisk) ↔ NoNumeral (valueAt (valuesOf c) i) f
 
--- a placement of such a field
+-- the characters cs are the numeral of a field's width that stands for the value, written as document 01 has it
+pub data Shows (v : Value) (cs : List ℕ) : Field ℕ → Type 0 where
+  integer-shown : {n : ℤ} {w : ℕ} (t : Numeral plain Numeric.I w) → v ≡ value.Integer n → numeral.characters t ≡ cs → AsWritten plain Numeric.I w n t
+      → Shows v cs (Field.I w)
+  decimal-shown : {x : Decimal} {w d : ℕ} {r : ℤ} (t : Numeral plain (Numeric.F d) w) → v ≡ value.Decimal x → Nearest (x .units) (x .places) d r
+      → numeral.characters t ≡ cs → AsWritten plain (Numeric.F d) w r t → Shows v cs (Field.F w d)
+
+-- and where there is such a numeral, the field is one
+abbrev pub NumeralsShown : Type 0
+NumeralsShown =
+    (c : Call) (t : Trace) (n : ℕ) → becomes c ≡ accepts t n → (p : Placement) → In p t → (i : ℕ) (f : Field ℕ) → p .what ≡ element i f
+    → numeric f ≡ true → (NoNumeral (valueAt (valuesOf c) i) f → ⊥) → Shows (valueAt (valuesOf c) i) (characters (c .area) (valuesOf c) p) f
+
+-- a placement of a field for which there is none
 pub record Unrepresentable (vs : List Value) (p : Placement) : Type 0 where
   pub i : ℕ
   pub f : Field ℕ

@@ -1,11 +1,11 @@
 -- What writing puts into the columns of a walk: its length, and what an accepted walk says of its values.
 -- Assumes nothing.
-use mathlib.Core.Path.{_≡_, refl, sym, ap, _∙_}
+use mathlib.Core.Path.{_≡_, refl, sym, _∙_}
 use mathlib.Core.Bool.{Bool, true, false, cond}
-use mathlib.Core.List.{List, map}
+use mathlib.Core.List.{List}
 use Prim.Native.Nat.{ℕ}
 use native.Mathlib.Omega.{arith}
-use lib.ListN.{length, getD, List·getD-map}
+use lib.ListN.{length}
 use Rattle.number.specs.Rounding.{roundedUnits}
 use Rattle.field_written.specs.Numeral.{Numeric, plain}
 use Rattle.field_written.proofs.Promises.{field-length}
@@ -13,29 +13,18 @@ use Rattle.field_written.proofs.Letters.{length-logical, length-text}
 use Rattle.format_grammar.specs.Items.{Field}
 use Rattle.format_grammar.specs.Met.{Met}
 use Rattle.format_grammar.specs.Promises.{MetWithin}
-use Rattle.list_elements.specs.Elements.{Kind, integer, kindOf, zeroValue, textBytes}
+use Rattle.list_elements.specs.Elements.{Kind, textBytes}
 use Rattle.list_elements.specs.declared.Value.{Value}
-use Rattle.sheet_walk.specs.Steps.{What, element, literal, Placement, suits, fieldWidth}
+use Rattle.sheet_walk.specs.Steps.{What, element, literal, Placement, fieldWidth}
 use Rattle.sheet_walk.specs.Walk.{Sheet, Trace, put, done, stopped, walk}
 use Rattle.sheet_walk.specs.Columns.{In, here, there}
 use Rattle.sheet_walk.specs.Promises.{Walkable, EndsWith}
 use Rattle.sheet_walk.specs.declared.Refusal.{Refusal}
 use Rattle.sheet_walk.specs.declared.Refusal.the-variants.{TooLarge}
-use Rattle.sheet_walk.proofs.Covering.{literals-wide, in-put, in-done, ends-put, ends-done, ends-stopped}
+use Rattle.sheet_walk.proofs.Covering.{literals-wide, ends-put, ends-done, ends-stopped}
 use Rattle.sheet_walk.proofs.Promises.{elements-suited}
 use Rattle.write_passes.specs.Placed.{integerOf, decimalOf, logicalOf, spanOf, fieldCharacters, fieldTooLarge, valueAt, charactersOf, characters, Judged, accepted, refused, judgedAt, judged}
 use Rattle.sheet_walk.proofs.FieldRanges.{fields-within}
-
--- ---- the values under fields
-
--- every field of the walk has a value of its kind
-abbrev pub AllSuited : List Value → Trace → Type 0
-AllSuited vs t = (p : Placement) → In p t → (i : ℕ) (f : Field ℕ) → p .what ≡ element i f → suits f (kindOf (valueAt vs i)) ≡ true
-
-pub values-suited : (vs : List Value) (h : Sheet) → h .kinds ≡ map kindOf vs → AllSuited vs (walk h)
-values-suited vs h k p m i f e =
-    let g : getD (h .kinds) i integer ≡ kindOf (valueAt vs i) = rw k (List·getD-map kindOf vs i zeroValue) in
-    ap (suits f) (sym g) ∙ elements-suited h p m i f e .suited
 
 -- ---- as many characters as columns
 
@@ -77,20 +66,7 @@ judged-ends vs (put p t) n e = EndsWith.there (judged-ends vs t n (judged-rest v
 judged-ends vs (done m) n e = let q : m ≡ n = cc in rw q EndsWith.here
 judged-ends vs (stopped why) n e = absurd (judged-clash e)
 
--- none of its values is too large for its field
-abbrev Small : List Value → Placement → Type 0
-Small vs p = (i : ℕ) (f : Field ℕ) → p .what ≡ element i f → fieldTooLarge f (valueAt vs i) ≡ false
-
-small-here : (vs : List Value) (what : What) (rest : Judged) (n : ℕ) → judgedAt vs what rest ≡ accepted n → (i : ℕ) (f : Field ℕ) → what ≡ element i f → fieldTooLarge f (valueAt vs i) ≡ false
-small-here vs what rest n e i f q = not-refused (fieldTooLarge f (valueAt vs i)) (TooLarge i) rest n (rw q at e) .0
-
-pub judged-small : (vs : List Value) (t : Trace) (n : ℕ) → judged vs t ≡ accepted n → (p : Placement) → In p t → (i : ℕ) (f : Field ℕ) → p .what ≡ element i f → fieldTooLarge f (valueAt vs i) ≡ false
-unfolding judged
-judged-small vs (put p t) n e = in-put (Small vs) (small-here vs (p .what) (judged vs t) n e) (judged-small vs t n (judged-rest vs (p .what) (judged vs t) n e))
-judged-small vs (done m) n e = in-done (Small vs) m
-judged-small vs (stopped why) n e = absurd (judged-clash e)
-
--- and these two are all that is asked
+-- a walk that ends, with no value too large, is accepted
 pub judged-accepts : (vs : List Value) (t : Trace) (n : ℕ) → EndsWith n t → ((p : Placement) → In p t → (i : ℕ) (f : Field ℕ) → p .what ≡ element i f → fieldTooLarge f (valueAt vs i) ≡ false) → judged vs t ≡ accepted n
 unfolding judged
 judged-accepts vs (put p t) n e small = go (p .what) refl ∙ judged-accepts vs t n (ends-put e) (λ q m. small q (there m))
