@@ -11,7 +11,7 @@ use lib.Dec.{ltb}
 use lib.ListN.{length, getD, take, length-take}
 use lib.Seq.{take-all, getD-take}
 use Rattle.list_elements.specs.Elements.{zeroValue, values}
-use Rattle.list_elements.specs.Limits.{mostElements, withinLimits, firstBad, overLimit, checkValues, listCheck}
+use Rattle.list_elements.specs.Limits.{checkNumber, checkPlace, listCheck, mostElements, withinLimits, firstBad, overLimit, checkValues, listCheck}
 use Rattle.list_elements.specs.Promises.{GoodUpTo, GoodIs, BadAt, BadIs}
 use Rattle.list_elements.specs.declared.Value.{Value}
 use Rattle.list_elements.specs.declared.List as carried
@@ -125,8 +125,24 @@ module _ (area : List ℕ) (l : carried.List) where
   bad-back (BadAt.over h g) =
       rw (first-good area 0 (take mostElements (values l)) (all-firsts area (values l) mostElements g), lt-ltb mostElements (l .count) h)
 
+-- ---- the answer by its number and place
+
+number-good : (k : ListCheck) → checkNumber k ≡ 0 → k ≡ Good
+number-good Good e = refl
+number-good (Bad p) e = absurd (omega arith)
+
+number-bad : (k : ListCheck) (p : ℕ) → checkNumber k ≡ 6 → checkPlace k ≡ p → k ≡ Bad p
+number-bad Good p e f = absurd (omega arith)
+number-bad (Bad q) p e f = ap Bad f
+
 pub good-is : GoodIs
-good-is area l = (λ e. let w = check-good area l e in (w .1, λ j u h. good-at area (values l) (w .0) j h), λ h. good-back area l (h .0) (h .1))
+good-is area l = (
+  (λ e. let w = check-good area l (number-good (listCheck area l) e) in (w .1, λ j u h. good-at area (values l) (w .0) j h)),
+  (λ h. ap checkNumber (good-back area l (h .0) (h .1))),
+)
 
 pub bad-is : BadIs
-bad-is area l p = (λ e. bad-forth area l e, λ h. bad-back area l h)
+bad-is area l p = (
+  (λ e. bad-forth area l (number-bad (listCheck area l) p (e .0) (e .1))),
+  (λ h. let e = bad-back area l h in (ap checkNumber e, ap checkPlace e)),
+)

@@ -49,6 +49,15 @@ overLimit most count (Bad p) = Bad p
 unfoldable pub checkValues : ℕ → List ℕ → List Value → ℕ → ListCheck
 checkValues most area vs count = overLimit most count (firstBad area 0 (take most vs))
 
+-- the table's columns 'No.' and 'Place'; 0 where the list is good
+abbrev pub checkNumber : ListCheck → ℕ
+checkNumber Good = 0
+checkNumber (Bad p) = 6
+
+abbrev pub checkPlace : ListCheck → ℕ
+checkPlace Good = 0
+checkPlace (Bad p) = p
+
 -- of the carried list
 abbrev pub listCheck : List ℕ → carried.List → ListCheck
 listCheck area l = checkValues mostElements area (values l) (l .count)

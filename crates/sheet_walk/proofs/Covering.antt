@@ -1,6 +1,6 @@
 -- What is covered: laws that hold wherever the walk comes to.
 -- Assumes nothing.
-use mathlib.Core.Path.{sym, _≡_, refl, ap, _∙_}
+use mathlib.Core.Path.{subst, _≡_, refl, ap, _∙_}
 use mathlib.Core.List.{List, [], _∷_}
 use Prim.Native.Nat.{ℕ, zero, suc, _+_, _-_, _<_, _≤_}
 use native.Mathlib.Omega.{arith}
@@ -17,7 +17,7 @@ use Rattle.sheet_walk.specs.Refusals.{refusalPlace}
 use Rattle.sheet_walk.specs.Steps.{What, element, literal, Placement, Step, moves, covers, refused, ends, start, step, endStep}
 use Rattle.sheet_walk.specs.Walk.{Sheet, sheet, Trace, put, done, stopped, after, pass, returns, atEnd, walk}
 use Rattle.sheet_walk.specs.Columns.{In, here, there}
-use Rattle.sheet_walk.specs.Promises.{StopsWith, RefusedAt, LiteralsWide, Walkable, EndsWith, Inside, Suited, placeOf, elementsPut, numbersFrom, CoversInside, CoversReached, ElementsSuited, PutsEach}
+use Rattle.sheet_walk.specs.Promises.{StopsWith, RefusedThere, RefusedBecause, ItemRefused, EndRefused, LiteralsWide, Walkable, EndsWith, Inside, Suited, placeOf, elementsPut, numbersFrom, CoversInside, CoversReached, ElementsSuited, PutsEach}
 use Rattle.sheet_walk.proofs.StepLaws.{fieldsOf, fieldsIn, Moved, CoveredBy, Covered, Does, step-does, AtEnd, end-does}
 
 -- ---- the sheet of an accepted format
@@ -62,7 +62,7 @@ module _ (h : Sheet) (P : State → Trace → Type 0)
     (goes : (s n : State) (t : Trace) → s .row ≤ n .row → n .taken ≡ s .taken → P n t → P s t)
     (puts : (x : Met) (s n : State) (p : Placement) (t : Trace) → Stands h s → Covered (h .kinds) (h .records) x s p n → P n t → P s (put p t))
     (finishes : (s : State) → Stands h s → s .taken ≡ length (h .kinds) → P s (done (s .row + 1)))
-    (stops : (s : State) (why : Refusal) → refusalPlace why ≡ s .taken → P s (stopped why)) where
+    (stops : (s : State) (why : Refusal) → RefusedThere h s why → P s (stopped why)) where
   every-step : (x : Met) (st : Step) (s : State) (next : State → Trace) → Stands h s → (Walkable h → MetWithin x) → Does (h .kinds) (h .records) x s st
       → ((n : State) → Stands h n → n .taken ≡ s .taken + fieldsOf x → P n (next n)) → P s (after st s next)
   every-step x (moves n) s next i within d rest =
@@ -70,7 +70,7 @@ module _ (h : Sheet) (P : State → Trace → Type 0)
   every-step x (covers p n) s next i within d rest =
       puts x s n p (next n) i d
       (rest n (moved-stands h x s n i within (d .moved) (few-covered (h .kinds) x s (p .width) (p .what) (d .by) (i .few))) (d .moved .takes))
-  every-step x (refused why) s next i within d rest = stops s why d
+  every-step x (refused why) s next i within d rest = stops s why (RefusedThere.at-item d)
   every-step x ends s next i within d rest = finishes s i (omega arith)
 
   every-pass : (next : State → Trace) (xs : List Met) (s : State) → Stands h s → (Walkable h → AllMetWithin xs)
@@ -87,7 +87,7 @@ module _ (h : Sheet) (P : State → Trace → Type 0)
       goes s n (next n) (d .0 .row-on) (omega (arith, d .0 .takes))
       (rest n (moved-stands h Met.slash s n i (λ w. tt) (d .0) (omega arith)) (omega (arith, d .0 .takes)) (d .1))
   every-end (covers p n) s next i d rest = absurd d
-  every-end (refused why) s next i d rest = stops s why d
+  every-end (refused why) s next i d rest = stops s why (RefusedThere.at-end d)
   every-end ends s next i d rest = finishes s i (omega arith)
 
   every-return : (k : ℕ) (s : State) → Stands h s → length (h .kinds) ≤ s .taken + k → P s (returns h k s)
@@ -224,16 +224,44 @@ takes-one : (kinds : List Kind) (x : Met) (s n : State) (w : ℕ) (what : What) 
 takes-one kinds x s n w (element i f) is by t = let t₁ : n .taken ≡ s .taken + 1 = t ∙ rw (by .0) in omega arith
 takes-one kinds x s n w (literal cs) is by t = let t₁ : n .taken ≡ s .taken = t ∙ rw (by .0) (omega arith) in omega arith
 
-abbrev Stops : State → Trace → Type 0
-Stops s t = (why : Refusal) → StopsWith why t → refusalPlace why ≡ s .taken + length (elementsPut t)
+-- a refusal's place is the number of elements taken
+item-place : {kinds : List Kind} {rs : Records} {s : State} {x : Met} {why : Refusal} → ItemRefused kinds rs s x why → refusalPlace why ≡ s .taken
+item-place (ItemRefused.wrong-kind a b) = refl
+item-place (ItemRefused.field-columns a b l) = refl
+item-place (ItemRefused.literal-columns l) = refl
+item-place (ItemRefused.X-column l) = refl
+item-place (ItemRefused.T-column l) = refl
+item-place (ItemRefused.slash-record l) = refl
 
-pub refused-at : RefusedAt
+end-place : {kinds : List Kind} {rs : Records} {part : List Met} {s : State} {why : Refusal} → EndRefused kinds rs part s why → refusalPlace why ≡ s .taken
+end-place (EndRefused.no-field a b) = refl
+end-place (EndRefused.no-record a b l) = refl
+
+there-place : {h : Sheet} {s : State} {why : Refusal} → RefusedThere h s why → refusalPlace why ≡ s .taken
+there-place (RefusedThere.at-item r) = item-place r
+there-place (RefusedThere.at-end r) = end-place r
+
+-- from s on the walk is refused at u
+pub record Stops (h : Sheet) (s : State) (t : Trace) (why : Refusal) : Type 0 where
+  pub u : State
+  pub reason : RefusedThere h u why
+  pub takes : u .taken ≡ s .taken + length (elementsPut t)
+
+abbrev Stopping : Sheet → State → Trace → Type 0
+Stopping h s t = (why : Refusal) → StopsWith why t → Stops h s t why
+
+stopping : (h : Sheet) → Stopping h start (walk h)
 unfolding elementsPut
-refused-at h why m =
-    every h Stops
-    (λ s n t r e rest y k. rest y k ∙ rw e)
-    (λ x s n p t i c rest y k. rest y (stops-put k) ∙ takes-one (h .kinds) x s n (p .width) (p .what) (elementsPut t) (c .by) (c .moved .takes))
+stopping h =
+    every h (Stopping h)
+    (λ s n t r e rest y k. let a = rest y k in record { u = a .u; reason = a .reason; takes = omega (arith, a .takes) })
+    (λ x s n p t i c rest y k.
+    let a = rest y (stops-put k) in
+    record { u = a .u; reason = a .reason; takes = a .takes ∙ takes-one (h .kinds) x s n (p .width) (p .what) (elementsPut t) (c .by) (c .moved .takes) })
     (λ s i e y k. absurd (stops-done k))
-    (λ s y g z k. ap refusalPlace (sym (stops-same k)) ∙ g ∙ omega arith)
-    why m
-    ∙ omega arith
+    (λ s y g z k. record { u = s; reason = subst (RefusedThere h s) (stops-same k) g; takes = omega arith })
+
+pub refused-because : RefusedBecause
+refused-because h why m =
+    let a = stopping h why m in
+    (a .u, a .reason, a .takes ∙ omega arith, there-place (a .reason))

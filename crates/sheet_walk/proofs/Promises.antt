@@ -1,6 +1,6 @@
 -- The theorems on the walk that specs/Promises.antt states.
 -- Assumes nothing.
-use Rattle.sheet_walk.specs.Promises.{EndIs, ReturnTakes, ItemRefusedIs, EndRefusedIs, CoversInside, CoversReached, ElementsSuited, PutsEach, LiteralsWide, RefusedAt, CoveredTwiceIs, ColumnsKept}
+use Rattle.sheet_walk.specs.Promises.{EndIs, ReturnTakes, ItemRefusedIs, EndRefusedIs, CoversInside, CoversReached, ElementsSuited, PutsEach, LiteralsWide, RefusedBecause, CoveredTwiceIs, ColumnsKept}
 use Rattle.sheet_walk.proofs.Returns
 use Rattle.sheet_walk.proofs.Refusing
 use Rattle.sheet_walk.proofs.Covering
@@ -40,8 +40,8 @@ puts-each = Covering.puts-each
 pub literals-wide : LiteralsWide
 literals-wide = Covering.literals-wide
 
-pub refused-at : RefusedAt
-refused-at = Covering.refused-at
+pub refused-because : RefusedBecause
+refused-because = Covering.refused-because
 
 -- ---- columns covered twice
 

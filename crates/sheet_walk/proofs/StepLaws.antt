@@ -16,9 +16,8 @@ use Rattle.list_elements.specs.Elements.{Kind, integer}
 use Rattle.sheet_walk.specs.declared.Refusal.the-variants as refusal
 use Rattle.sheet_walk.specs.declared.Records.{Records}
 use Rattle.sheet_walk.specs.declared.State.{State}
-use Rattle.sheet_walk.specs.Refusals.{refusalPlace}
 use Rattle.sheet_walk.specs.Steps.{What, element, literal, Placement, Step, moves, covers, refused, ends, state, suits, fieldWidth, coverStep, fieldStep, nextRecord, step, hasField, endStep}
-use Rattle.sheet_walk.specs.Promises.{Suited}
+use Rattle.sheet_walk.specs.Promises.{ItemRefused, EndRefused, Suited}
 
 -- by a test: the case where it holds, and the case where it does not
 pub by-test : {A : Type 0} (P : A → Type 0) (b : Bool) (x y : A) → (b ≡ true → P x) → (b ≡ false → P y) → P (cond b x y)
@@ -73,16 +72,17 @@ pub record Covered (kinds : List Kind) (rs : Records) (x : Met) (s : State) (p :
   pub up-to : p .column + p .width ≡ n .column
 
 -- what an item does, by cases: a field does not move the walk alone, and ends it only where no element remains; a refusal has
--- the elements taken as its place
+-- its reason
 abbrev pub Does : List Kind → Records → Met → State → Step → Type 0
 Does kinds rs x s (moves n) = Moved rs x s n × (fieldsOf x ≡ 0)
 Does kinds rs x s (covers p n) = Covered kinds rs x s p n
-Does kinds rs x s (refused why) = refusalPlace why ≡ s .taken
+Does kinds rs x s (refused why) = ItemRefused kinds rs s x why
 Does kinds rs x s ends = length kinds ≤ s .taken
 
 module _ (kinds : List Kind) (rs : Records) (s : State) where
-  cover-does : (x : Met) (what : What) (w taken : ℕ) → CoveredBy kinds x s w what → taken ≡ s .taken + fieldsOf x → Does kinds rs x s (coverStep rs s what w taken)
-  cover-does x what w taken by t =
+  cover-does : (x : Met) (what : What) (w taken : ℕ) → CoveredBy kinds x s w what → taken ≡ s .taken + fieldsOf x
+      → (rs .width + 1 < s .column + w → ItemRefused kinds rs s x (refusal.Column (s .taken))) → Does kinds rs x s (coverStep rs s what w taken)
+  cover-does x what w taken by t reason =
       by-test (Does kinds rs x s) (leb (s .column + w) (rs .width + 1))
       (covers (record { what = what; row = s .row; column = s .column; width = w }) (state (s .row) (s .column + w) taken))
       (refused (refusal.Column (s .taken)))
@@ -93,7 +93,7 @@ module _ (kinds : List Kind) (rs : Records) (s : State) where
         at = refl;
         up-to = refl;
       })
-      (λ e. refl)
+      (λ e. reason (leb-false (s .column + w) (rs .width + 1) e))
 
   field-does : (f : Field ℕ) → Does kinds rs (Met.field f) s (fieldStep rs s f (drop (s .taken) kinds))
   field-does f =
@@ -107,8 +107,9 @@ module _ (kinds : List Kind) (rs : Records) (s : State) where
           (by-test (Does kinds rs (Met.field f) s) (suits f k)
           (coverStep rs s (element (s .taken) f) (fieldWidth f k) (s .taken + 1))
           (refused (refusal.Kind (s .taken)))
-          (λ g. cover-does (Met.field f) (element (s .taken) f) (fieldWidth f k) (s .taken + 1) (refl, refl, record { known = lt; suited = g; wide = refl }) refl)
-          (λ g. refl))
+          (λ g. cover-does (Met.field f) (element (s .taken) f) (fieldWidth f k) (s .taken + 1) (refl, refl, record { known = lt; suited = g; wide = refl }) refl
+          (λ l. ItemRefused.field-columns lt g l))
+          (λ g. ItemRefused.wrong-kind lt g))
       go false e =
           let le : length kinds ≤ s .taken = ltb-false _ _ e in
           rw (drop-of-length-le kinds le) le
@@ -119,7 +120,7 @@ module _ (kinds : List Kind) (rs : Records) (s : State) where
   slash-does : Does kinds rs Met.slash s (nextRecord rs s)
   slash-does =
       by-test (Does kinds rs Met.slash s) (ltb (s .row + 1) (rs .count)) (moves (state (s .row + 1) 1 (s .taken))) (refused (refusal.NextRecord (s .taken)))
-      (λ e. (next-moved e, refl)) (λ e. refl)
+      (λ e. (next-moved e, refl)) (λ e. ItemRefused.slash-record (ltb-false (s .row + 1) (rs .count) e))
 
   pub step-does : (x : Met) → Does kinds rs x s (step kinds rs x s)
   unfolding step
@@ -127,19 +128,19 @@ module _ (kinds : List Kind) (rs : Records) (s : State) where
   step-does (Met.X n) =
       by-test (Does kinds rs (Met.X n) s) (leb (s .column + n) (rs .width + 1)) (moves (state (s .row) (s .column + n) (s .taken))) (refused (refusal.Column (s .taken)))
       (λ e. (record { takes = omega arith; row-on = omega arith; row-in = λ h. h; from = λ m h. omega arith; to = leb-true _ _ e }, refl))
-      (λ e. refl)
+      (λ e. ItemRefused.X-column (leb-false (s .column + n) (rs .width + 1) e))
   step-does (Met.T n) =
       by-test (Does kinds rs (Met.T n) s) (leb n (rs .width)) (moves (state (s .row) n (s .taken))) (refused (refusal.Column (s .taken)))
       (λ e. (record { takes = omega arith; row-on = omega arith; row-in = λ h. h; from = λ m h. m .0; to = omega (arith, leb-true n (rs .width) e) }, refl))
-      (λ e. refl)
+      (λ e. ItemRefused.T-column (leb-false n (rs .width) e))
   step-does Met.slash = slash-does
-  step-does (Met.literal cs) = cover-does (Met.literal cs) (literal cs) (length cs) (s .taken) (refl, refl) (omega arith)
+  step-does (Met.literal cs) = cover-does (Met.literal cs) (literal cs) (length cs) (s .taken) (refl, refl) (omega arith) (λ l. ItemRefused.literal-columns l)
 
   -- the end of the format: the walk ends where no element remains, goes on as at a slash to a part with a field, or is refused
   abbrev pub AtEnd : List Met → Step → Type 0
   AtEnd part (moves n) = Moved rs Met.slash s n × (1 ≤ fieldsIn part) × (s .taken < length kinds)
   AtEnd part (covers p n) = ⊥
-  AtEnd part (refused why) = refusalPlace why ≡ s .taken
+  AtEnd part (refused why) = EndRefused kinds rs part s why
   AtEnd part ends = length kinds ≤ s .taken
 
   pub end-does : (part : List Met) → AtEnd part (endStep kinds rs part s)
@@ -151,5 +152,6 @@ module _ (kinds : List Kind) (rs : Records) (s : State) where
       by-test (AtEnd part) (hasField part) (nextRecord rs s) (refused (refusal.NoField (s .taken)))
       (λ f.
       by-test (AtEnd part) (ltb (s .row + 1) (rs .count)) (moves (state (s .row + 1) 1 (s .taken))) (refused (refusal.NextRecord (s .taken)))
-      (λ g. (next-moved g, has-fields part f, leb-false (length kinds) (s .taken) e)) (λ g. refl))
-      (λ f. refl))
+      (λ g. (next-moved g, has-fields part f, leb-false (length kinds) (s .taken) e))
+      (λ g. EndRefused.no-record (leb-false (length kinds) (s .taken) e) f (ltb-false (s .row + 1) (rs .count) g)))
+      (λ f. EndRefused.no-field (leb-false (length kinds) (s .taken) e) f))

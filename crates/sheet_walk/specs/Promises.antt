@@ -45,6 +45,7 @@ pub data ItemRefused (kinds : List Kind) (rs : Records) (s : State) : Met → Re
   T-column : {n : ℕ} → rs .width < n → ItemRefused kinds rs s (Met.T n) (refusal.Column (s .taken))
   slash-record : rs .count ≤ s .row + 1 → ItemRefused kinds rs s Met.slash (refusal.NextRecord (s .taken))
 
+-- an item met is refused exactly for these reasons
 abbrev pub ItemRefusedIs : Type 0
 ItemRefusedIs = (kinds : List Kind) (rs : Records) (x : Met) (s : State) (why : Refusal) → (step kinds rs x s ≡ refused why) ↔ ItemRefused kinds rs s x why
 
@@ -53,6 +54,7 @@ pub data EndRefused (kinds : List Kind) (rs : Records) (part : List Met) (s : St
   no-field : s .taken < length kinds → hasField part ≡ false → EndRefused kinds rs part s (refusal.NoField (s .taken))
   no-record : s .taken < length kinds → hasField part ≡ true → rs .count ≤ s .row + 1 → EndRefused kinds rs part s (refusal.NextRecord (s .taken))
 
+-- and the end of the format exactly for these
 abbrev pub EndRefusedIs : Type 0
 EndRefusedIs =
     (kinds : List Kind) (rs : Records) (part : List Met) (s : State) (why : Refusal) → (endStep kinds rs part s ≡ refused why) ↔ EndRefused kinds rs part s why
@@ -122,9 +124,17 @@ pub data StopsWith (why : Refusal) : Trace → Type 0 where
   here : StopsWith why (stopped why)
   there : {p : Placement} {t : Trace} → StopsWith why t → StopsWith why (put p t)
 
--- with the elements taken as its place, so many being put before
-abbrev pub RefusedAt : Type 0
-RefusedAt = (h : Sheet) (why : Refusal) → StopsWith why (walk h) → refusalPlace why ≡ length (elementsPut (walk h))
+-- for the reason of an item, or that of the end of the format, at a state
+pub data RefusedThere (h : Sheet) (s : State) (why : Refusal) : Type 0 where
+  at-item : {x : Met} → ItemRefused (h .kinds) (h .records) s x why → RefusedThere h s why
+  at-end : EndRefused (h .kinds) (h .records) (h .part) s why → RefusedThere h s why
+
+-- where so many elements were taken as are put before, which is the refusal's place
+abbrev pub RefusedBecause : Type 0
+RefusedBecause =
+    (h : Sheet) (why : Refusal) → StopsWith why (walk h) → (s : State) × RefusedThere h s why
+    × (s .taken ≡ length (elementsPut (walk h)))
+    × (refusalPlace why ≡ s .taken)
 
 -- ---- columns covered twice
 

@@ -23,7 +23,7 @@ use Rattle.sheet_walk.specs.declared.Step.the-variants as answer
 use Rattle.sheet_walk.specs.declared.Turn.{Turn}
 use Rattle.sheet_walk.specs.declared.Turn.the-variants as turn
 
--- the walk stands in a record, at a column of it or just past its last one, and no number is beyond a machine's
+-- the walk stands in a record, at a column of it or just past its last one, and every number fits into a machine word
 pub record Standing (rs : Records) (s : State) : Type 0 where
   pub in-record : s .row < rs .count
   pub from : 1 ≤ s .column
@@ -79,7 +79,7 @@ sheetOf t words back kinds rs =
     }
 
 -- a run of words with the characters t of its literals, whose items have their numbers within their ranges; a list's kinds; and
--- records to walk in, of which no number is beyond a machine's
+-- records to walk in, every number of which fits into a machine word
 pub record Loaded (t words kinds : List ℕ) (rs : Records) : Type 0 where
   pub sound : RunWords (length t) words
   pub within : AllMetWithin (map (metOf t) words)

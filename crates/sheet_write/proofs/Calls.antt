@@ -1,15 +1,16 @@
 -- What becomes of a call: it is acceptable, or a row answers; and the buffer after an accepted one.
 -- Assumes nothing.
-use mathlib.Core.Path.{_≡_, refl, ap}
+use mathlib.Core.Path.{_≡_, refl, ap, subst}
 use mathlib.Core.Bool.{Bool, true, false, cond}
 use Prim.Native.Nat.{ℕ, _/_, _<_}
 use native.Mathlib.Omega.{arith}
-use borrow.Author.Tests.{leb-true, le-leb, eqb-true, eqb-false, ne-eqb}
+use borrow.Author.Tests.{leb-true, le-leb, eqb-true, eqb-false}
 use lib.Dec.{leb, eqb}
 use lib.ListN.{length}
 use Rattle.format_grammar.specs.Items.{Items}
 use Rattle.format_grammar.specs.Check as formats
 use Rattle.format_grammar.specs.Promises.{Acceptable}
+use Rattle.format_grammar.specs.Promises as formatted
 use Rattle.format_grammar.specs.declared.FormatRefusal.{FormatRefusal}
 use Rattle.format_grammar.specs.declared.FormatRefusal.the-variants.{Length, Grammar, Range, Size}
 use Rattle.format_grammar.proofs.Cases.{and-true}
@@ -23,10 +24,9 @@ use Rattle.sheet_walk.specs.Refusals.{refusalNumber, refusalPlace}
 use Rattle.sheet_walk.specs.declared.Refusal.{Refusal}
 use Rattle.sheet_walk.specs.declared.Refusal.the-variants.{NoRecord, RecordWidth}
 use Rattle.write_passes.specs.Placed.{characters, Judged}
-use Rattle.write_passes.proofs.PlacedLaws.{judged-accepts}
 use Rattle.sheet_write.specs.Writing.{Writing, accepts, refuses, concluded, walked, checkBuffer, checkList, checkFormat, widthRight, writingOf, bufferOf}
 use Rattle.sheet_write.specs.Promises.{Call, valuesOf, becomes, bufferAfter, WidthRight, Walks, walkOf, AcceptableCall, AnsweredBy}
-use Rattle.sheet_write.proofs.Rounds.{Told, told, rounds-small}
+use Rattle.sheet_write.proofs.Rounds.{Told, told}
 
 -- a writing with the reason for it
 pub data Came (c : Call) : Writing → Type 0 where
@@ -64,40 +64,26 @@ numbered Size e = omega arith
 came-format : (c : Call) → WidthRight c → (o : formats.Outcome) → formats.outcome (c .format) ≡ o → Came c (checkFormat (c .R) o (listCheck (c .area) (c .list)) (valuesOf c) (length (c .buffer)))
 came-format c w (formats.accepted xs) e = came-list c xs w (grammar.accepts-exactly (c .format) xs .0 e) (listCheck (c .area) (c .list)) refl
 came-format c w (formats.refused why) e =
-    Came.refused (AnsweredBy.wrong-format w (numbered why) (record { number-is = ap formats.outcomeNumber e; place-is = ap formats.outcomePlace e }))
+    Came.refused (AnsweredBy.wrong-format w (numbered why)
+    (subst (λ o. formatted.AnsweredBy (c .format) (formats.outcomeNumber o) (formats.outcomePlace o)) e (grammar.always-answered (c .format))))
+
+-- the test of the width, passed
+pub width-passed : (c : Call) → widthRight (c .R) ≡ true → WidthRight c
+width-passed c e =
+    let r = and-true (leb 1 (c .R)) (leb (c .R) 255) e in
+    record { from = leb-true 1 (c .R) (r .0); to = leb-true (c .R) 255 (r .1) }
 
 pub came : (c : Call) → Came c (becomes c)
 unfolding writingOf
 came c = go (widthRight (c .R)) refl
   where
     go : (b : Bool) → widthRight (c .R) ≡ b → Came c (cond b (checkFormat (c .R) (formats.outcome (c .format)) (listCheck (c .area) (c .list)) (valuesOf c) (length (c .buffer))) (refuses RecordWidth))
-    go true e =
-        let r = and-true (leb 1 (c .R)) (leb (c .R) 255) e in
-        came-format c (record { from = leb-true 1 (c .R) (r .0); to = leb-true (c .R) 255 (r .1) }) (formats.outcome (c .format)) refl
+    go true e = came-format c (width-passed c e) (formats.outcome (c .format)) refl
     go false e =
         Came.refused (AnsweredBy.wrong-width (λ w.
         let t : widthRight (c .R) ≡ true = rw (le-leb 1 (c .R) (w .from), le-leb (c .R) 255 (w .to)) in
         let z : _≡_ {A = ℕ} 0 1 = cc in
         omega arith))
-
--- ---- an acceptable call is accepted
-
-pub passes : (c : Call) (t : Trace) (n : ℕ) → AcceptableCall c t n → becomes c ≡ accepts t n
-unfolding writingOf
-passes c t n a =
-    let w = a .walks in
-    let some = w .some-record in
-    let ne : length (c .buffer) / c .R ≡ 0 → ⊥ = λ z. omega arith in
-    let j = judged-accepts (valuesOf c) t n (a .ends) (λ p m. rounds-small (valuesOf c) p (a .rounds p m)) in
-    rw (
-      le-leb 1 (c .R) (w .width .from),
-      le-leb (c .R) 255 (w .width .to),
-      grammar.accepts-exactly (c .format) (a .xs) .1 (w .format),
-      w .list,
-      ne-eqb (length (c .buffer) / c .R) 0 ne,
-      ← a .is,
-      j,
-    )
 
 -- ---- the buffer afterwards
 

@@ -3,6 +3,7 @@ pub mod Accepted
 pub mod Starred
 pub mod Bytes
 pub mod Calls
+pub mod Answering
 pub mod Promises
 pub mod WriteLaws
 pub mod Whole

@@ -10,10 +10,11 @@ use Rattle.sheet_walk.proofs.Windows.{length-laid, drop-laid}
 use Rattle.sheet_walk.proofs.Promises.{columns-kept}
 use Rattle.write_passes.specs.Placed.{characters}
 use Rattle.sheet_write.specs.Writing.{Writing, accepts, answerOf, answerNumber, answerPlace, answerRecords, answerStarred, bufferOf}
-use Rattle.sheet_write.specs.Promises.{Call, valuesOf, becomes, AcceptableCall, AnsweredBy, AlwaysAnswered, AcceptsExactly, RefusedSo, ElementsPut, PlacedRight, Unrepresentable, Counted, StarsExactlyWhen, NumeralsShown, StarredIsTheirNumber, RecordsReached, LastHolds, BlankElsewhere, ColumnsHold, RestKept}
+use Rattle.sheet_write.specs.Promises.{Call, valuesOf, becomes, AcceptableCall, AnsweredBy, AlwaysAnswered, AnsweredOnly, AcceptsExactly, RefusedSo, ElementsPut, PlacedRight, Unrepresentable, Counted, StarsExactlyWhen, NumeralsShown, StarredIsTheirNumber, RecordsReached, LastHolds, BlankElsewhere, ColumnsHold, RestKept}
 use Rattle.sheet_write.proofs.Accepted.{some-reached, room, all-fit, all-suited, puts-all}
+use Rattle.sheet_write.proofs.Answering.{passes, meets-only}
 use Rattle.sheet_write.proofs.Bytes.{length-blanked, drop-blanked, written-last, written-blank}
-use Rattle.sheet_write.proofs.Calls.{Came, came, passes, buffer-is}
+use Rattle.sheet_write.proofs.Calls.{Came, came, buffer-is}
 use Rattle.sheet_write.proofs.Starred.{field-stars, field-shows, counted}
 
 -- ---- which row answers
@@ -24,6 +25,9 @@ always-answered c = go (came c)
     go : {w : Writing} → Came c w → AnsweredBy c (answerNumber (answerOf (valuesOf c) w)) (answerPlace (answerOf (valuesOf c) w))
     go (Came.accepted a) = AnsweredBy.acceptable a
     go (Came.refused r) = r
+
+pub answered-only : AnsweredOnly
+answered-only c k p a = meets-only c a
 
 -- an accepted call has passed every row
 acceptable : (c : Call) (t : Trace) (n : ℕ) → becomes c ≡ accepts t n → AcceptableCall c t n

@@ -28,6 +28,7 @@ pub record Roomy (rs : Records) (B : ℕ) : Type 0 where
   pub narrow : rs .width < 256
   pub room : rs .count * rs .width ≤ B
 
+-- a loaded run and a good list taken apart, for some list of values
 pub record SomeReady (t area words kinds : List ℕ) (amounts : List ℤ) (details : List ℕ) (rs : Records) : Type 0 where
   pub vs : List Value
   pub ready : Ready t area vs words kinds amounts details rs
@@ -38,6 +39,7 @@ pub record Listed (area : List ℕ) (vs : List Value) (kinds : List ℕ) (amount
   pub good : firstBad area 0 vs ≡ Good
   pub few : length kinds < 2 ^ 32
 
+-- for some list of values
 pub record SomeListed (area kinds : List ℕ) (amounts : List ℤ) (details : List ℕ) : Type 0 where
   pub vs : List Value
   pub listed : Listed area vs kinds amounts details
@@ -46,6 +48,7 @@ pub record SomeListed (area kinds : List ℕ) (amounts : List ℤ) (details : Li
 pub record ListedIf (check : ListCheck) (area : List ℕ) (vs : List Value) (kinds : List ℕ) (amounts : List ℤ) (details : List ℕ) : Type 0 where
   pub if-good : check ≡ Good → Listed area vs kinds amounts details
 
+-- for some list of values
 pub record SomeListedIf (check : ListCheck) (area kinds : List ℕ) (amounts : List ℤ) (details : List ℕ) : Type 0 where
   pub vs : List Value
   pub listed-if : ListedIf check area vs kinds amounts details

@@ -14,7 +14,8 @@ use Rattle.field_written.specs.Numeral.{Numeric, plain, Numeral, standsFor}
 use Rattle.field_written.specs.Numeral as numeral
 use Rattle.field_written.specs.Promises.{AsWritten}
 use Rattle.format_grammar.specs.Items.{Field, Items}
-use Rattle.format_grammar.specs.Promises.{Acceptable, Answers}
+use Rattle.format_grammar.specs.Promises as grammar
+use Rattle.format_grammar.specs.Promises.{Acceptable}
 use Rattle.list_elements.specs.Elements.{kindOf, values}
 use Rattle.list_elements.specs.Limits.{listCheck}
 use Rattle.list_elements.specs.declared.Decimal.{Decimal}
@@ -42,7 +43,8 @@ pub record Call : Type 0 where
   pub area : List ℕ
   pub buffer : List ℕ
 
--- the values of its list, what becomes of it, what it answers, and the buffer afterwards
+-- the values of its list; what becomes of it; what it answers, with the starred number and the number of records; and the
+-- buffer afterwards
 abbrev pub valuesOf : Call → List Value
 valuesOf c = values (c .list)
 
@@ -83,11 +85,12 @@ walkOf c xs = walk (sheet xs (map kindOf (valuesOf c)) (record { width = c .R; c
 -- 'The rounded units must have magnitude at most 10^18 − 1': what a placement puts is no decimal that is rounded beyond that
 abbrev pub RoundsWithin : List Value → Placement → Type 0
 RoundsWithin vs p =
-    (i u d : ℕ) (x : Decimal) → p .what ≡ element i (Field.F u d) → valueAt vs i ≡ value.Decimal x → (r : ℤ) → Nearest (x .units) (x .places) d r → natAbs r ≤ largest
+    (i w d : ℕ) (x : Decimal) → p .what ≡ element i (Field.F w d) → valueAt vs i ≡ value.Decimal x → (r : ℤ) → Nearest (x .units) (x .places) d r → natAbs r ≤ largest
 
--- the first placement that does is that of element i. (By the law `RoundedIs` of `number` a decimal has one r that is nearest.)
+-- the first placement whose decimal is rounded beyond that is the one of element i. (By the law `RoundedIs` of `number` a
+-- decimal has one r that is nearest.)
 pub data TooLargeAt (vs : List Value) (i : ℕ) : Trace → Type 0 where
-  here : {p : Placement} {t : Trace} {u d : ℕ} {x : Decimal} {r : ℤ} → p .what ≡ element i (Field.F u d) → valueAt vs i ≡ value.Decimal x
+  here : {p : Placement} {t : Trace} {w d : ℕ} {x : Decimal} {r : ℤ} → p .what ≡ element i (Field.F w d) → valueAt vs i ≡ value.Decimal x
       → Nearest (x .units) (x .places) d r → largest < natAbs r → TooLargeAt vs i (put p t)
   there : {p : Placement} {t : Trace} → RoundsWithin vs p → TooLargeAt vs i t → TooLargeAt vs i (put p t)
 
@@ -103,7 +106,7 @@ pub record AcceptableCall (c : Call) (t : Trace) (n : ℕ) : Type 0 where
 pub data AnsweredBy (c : Call) : ℕ → ℕ → Type 0 where
   acceptable : {t : Trace} {n : ℕ} → AcceptableCall c t n → AnsweredBy c 0 0
   wrong-width : (WidthRight c → ⊥) → AnsweredBy c 1 0
-  wrong-format : {k p : ℕ} → WidthRight c → (k ≡ 0 → ⊥) → Answers (c .format) k p → AnsweredBy c k p
+  wrong-format : {k p : ℕ} → WidthRight c → (k ≡ 0 → ⊥) → grammar.AnsweredBy (c .format) k p → AnsweredBy c k p
   bad-element : {xs : Items} {p : ℕ} → WidthRight c → Acceptable (c .format) xs → listCheck (c .area) (c .list) ≡ Bad p → AnsweredBy c 6 p
   no-record : {xs : Items} → WidthRight c → Acceptable (c .format) xs → listCheck (c .area) (c .list) ≡ Good → length (c .buffer) / c .R ≡ 0 → AnsweredBy c 9 0
   refused-walk : {xs : Items} {why : Refusal} → Walks c xs → StopsWith why (walkOf c xs) → ((p : Placement) → In p (walkOf c xs) → RoundsWithin (valuesOf c) p)
@@ -114,7 +117,11 @@ pub data AnsweredBy (c : Call) : ℕ → ℕ → Type 0 where
 abbrev pub AlwaysAnswered : Type 0
 AlwaysAnswered = (c : Call) → AnsweredBy c (answerNumber (answerTo c)) (answerPlace (answerTo c))
 
--- what is accepted
+-- and by no other: what answers has the answer's number and place
+abbrev pub AnsweredOnly : Type 0
+AnsweredOnly = (c : Call) (k p : ℕ) → AnsweredBy c k p → (answerNumber (answerTo c) ≡ k) × (answerPlace (answerTo c) ≡ p)
+
+-- a call is accepted, with the walk t and n records, exactly when every row is passed
 abbrev pub AcceptsExactly : Type 0
 AcceptsExactly = (c : Call) (t : Trace) (n : ℕ) → (becomes c ≡ accepts t n) ↔ AcceptableCall c t n
 
@@ -134,7 +141,8 @@ RefusedSo =
 abbrev pub ElementsPut : Type 0
 ElementsPut = (c : Call) (t : Trace) (n : ℕ) → becomes c ≡ accepts t n → elementsPut t ≡ numbersFrom 0 (length (valuesOf c))
 
--- each in columns of the records written, as many characters as columns, and an element under a field that its kind suits
+-- each field and literal lies in columns of the records written and has as many characters as columns; an element stands under
+-- a field that its kind suits, as wide as its descriptor says
 abbrev pub PlacedRight : Type 0
 PlacedRight =
     (c : Call) (t : Trace) (n : ℕ) → becomes c ≡ accepts t n → (p : Placement) → In p t → Inside (c .R) n p
@@ -170,20 +178,20 @@ pub data Shows (v : Value) (cs : List ℕ) : Field ℕ → Type 0 where
   decimal-shown : {x : Decimal} {w d : ℕ} {r : ℤ} (t : Numeral plain (Numeric.F d) w) → v ≡ value.Decimal x → Nearest (x .units) (x .places) d r
       → numeral.characters t ≡ cs → AsWritten plain (Numeric.F d) w r t → Shows v cs (Field.F w d)
 
--- and where there is such a numeral, the field is one
+-- where some numeral of the field's width stands for the value, the field is the one that document 01 describes
 abbrev pub NumeralsShown : Type 0
 NumeralsShown =
     (c : Call) (t : Trace) (n : ℕ) → becomes c ≡ accepts t n → (p : Placement) → In p t → (i : ℕ) (f : Field ℕ) → p .what ≡ element i f
     → numeric f ≡ true → (NoNumeral (valueAt (valuesOf c) i) f → ⊥) → Shows (valueAt (valuesOf c) i) (characters (c .area) (valuesOf c) p) f
 
--- a placement of a field for which there is none
+-- a placement of a numeric field where no numeral of its width stands for the value
 pub record Unrepresentable (vs : List Value) (p : Placement) : Type 0 where
   pub i : ℕ
   pub f : Field ℕ
   pub is : p .what ≡ element i f
   pub none : NoNumeral (valueAt vs i) f
 
--- k of the walk's placements are such
+-- k of the walk's placements have the property P
 pub data Counted (P : Placement → Type 0) : Trace → ℕ → Type 0 where
   ends : {n : ℕ} → Counted P (done n) 0
   refused : {why : Refusal} → Counted P (stopped why) 0

@@ -86,8 +86,8 @@ writeAnswer R format l area buffer = answerOf (values l) (writing R format l are
 abbrev pub writeBuffer : ℕ → List ℕ → carried.List → List ℕ → List ℕ → List ℕ
 writeBuffer R format l area buffer = bufferOf R area (values l) buffer (writing R format l area (length buffer))
 
--- ---- document 01's number, place, records and starred of a writing, and then of the code's answer: 'A refusal carries number and place, and besides them zero records,
--- zero starred'; 0 where an accepted writing has no number and place
+-- ---- document 01's number, place, records and starred of a writing, and then of the code's answer: 'A refusal carries number
+-- and place, and besides them zero records, zero starred'; 0 where an accepted writing has no number and place
 
 abbrev pub writingNumber : Writing → ℕ
 writingNumber (accepts t n) = 0
@@ -106,7 +106,7 @@ abbrev pub writingStarred : List Value → Writing → ℕ
 writingStarred vs (accepts t n) = starredIn vs t
 writingStarred vs (refuses why) = 0
 
--- of each answer
+-- the same of the code's answer
 abbrev pub answerNumber : Written → ℕ
 answerNumber (answer.Accepted n k) = 0
 answerNumber (answer.Refused why) = refusalNumber why

@@ -78,6 +78,7 @@ pub record Placed (t area : List ℕ) (vs : List Value) (kinds : List ℕ) (amou
   pub placeable : Placeable t area vs kinds amounts details word i w
   pub small : whatTooLarge vs (whatOf (metOf t word) i) ≡ false
 
+-- for some list of values
 pub record Puttable (t area kinds : List ℕ) (amounts : List ℤ) (details : List ℕ) (word i w : ℕ) : Type 0 where
   pub vs : List Value
   pub placed : Placed t area vs kinds amounts details word i w
@@ -90,6 +91,7 @@ pub record Ready (t area : List ℕ) (vs : List Value) (words kinds : List ℕ) 
   pub apart : Apart vs kinds amounts details
   pub good : firstBad area 0 vs ≡ Good
 
+-- for some characters, area and list of values
 pub record Readied (words kinds : List ℕ) (amounts : List ℤ) (details : List ℕ) (rs : Records) : Type 0 where
   pub t : List ℕ
   pub area : List ℕ
@@ -102,6 +104,7 @@ pub record Passed (t area : List ℕ) (vs : List Value) (words : List ℕ) (back
   pub n : ℕ
   pub accepts : judged vs (walk (sheetOf t words back kinds rs)) ≡ accepted n
 
+-- for some list of values
 pub record Passable (t area words : List ℕ) (back : ℕ) (kinds : List ℕ) (amounts : List ℤ) (details : List ℕ) (rs : Records) : Type 0 where
   pub vs : List Value
   pub passed : Passed t area vs words back kinds amounts details rs

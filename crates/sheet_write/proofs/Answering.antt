@@ -1,0 +1,147 @@
+-- What becomes of a call, from the row that it meets: an acceptable call is accepted, and a row whose condition holds answers.
+-- Assumes nothing.
+use mathlib.Core.Path.{_≡_, refl, sym, ap, subst, _∙_}
+use mathlib.Core.Bool.{Bool, true, false, cond}
+use mathlib.Core.List.{List}
+use Prim.Native.Nat.{ℕ, _/_, _<_}
+use native.Mathlib.Omega.{arith}
+use borrow.Author.Tests.{le-leb, lt-ltb, eq-eqb, ne-eqb}
+use lib.IntN.{ℤ, natAbs}
+use lib.ListN.{length}
+use Rattle.number.specs.Limits.{largest}
+use Rattle.number.specs.Rounding.{Nearest, roundedUnits, tooLarge}
+use Rattle.number.proofs.RoundingLaws.{rounded-is}
+use Rattle.format_grammar.specs.Items.{Field, Items}
+use Rattle.format_grammar.specs.Check as formats
+use Rattle.format_grammar.specs.Promises.{Acceptable, Answers}
+use Rattle.format_grammar.specs.Promises as formatted
+use Rattle.format_grammar.proofs.Promises as grammar
+use Rattle.list_elements.specs.Limits.{listCheck}
+use Rattle.list_elements.specs.declared.Decimal.{Decimal}
+use Rattle.list_elements.specs.declared.Value.{Value}
+use Rattle.list_elements.specs.declared.Value.the-variants as value
+use Rattle.list_elements.specs.declared.ListCheck.{ListCheck}
+use Rattle.list_elements.specs.declared.ListCheck.the-variants.{Good, Bad}
+use Rattle.sheet_walk.specs.Steps.{What, element, literal, Placement}
+use Rattle.sheet_walk.specs.Walk.{Trace}
+use Rattle.sheet_walk.specs.Columns.{In, here, there}
+use Rattle.sheet_walk.specs.Promises.{StopsWith}
+use Rattle.sheet_walk.specs.declared.Refusal.{Refusal}
+use Rattle.sheet_walk.specs.declared.Refusal.the-variants.{RecordWidth, Format, NoRecord, TooLarge}
+use Rattle.write_passes.specs.Placed.{valueAt, fieldTooLarge, Judged, refused, judgedAt, judged}
+use Rattle.write_passes.proofs.PlacedLaws.{judged-accepts}
+use Rattle.sheet_write.specs.Writing.{Writing, accepts, refuses, concluded, walked, checkList, checkFormat, widthRight, writingOf, answerOf, answerNumber, answerPlace}
+use Rattle.sheet_write.specs.Promises.{Call, valuesOf, becomes, answerTo, WidthRight, Walks, walkOf, RoundsWithin, TooLargeAt, AcceptableCall, AnsweredBy}
+use Rattle.sheet_write.proofs.Rounds.{rounds-small}
+use Rattle.sheet_write.proofs.Calls.{width-passed}
+
+-- ---- the check of values over a walk
+
+-- a placement that rounds within the limit leaves the rest to answer
+judged-past : (vs : List Value) (p : Placement) (rest : Judged) → RoundsWithin vs p → judgedAt vs (p .what) rest ≡ rest
+judged-past vs p rest r = go (p .what) refl
+  where
+    go : (what : What) → p .what ≡ what → judgedAt vs what rest ≡ rest
+    go (element i f) q = rw (rounds-small vs p r i f q)
+    go (literal cs) q = refl
+
+-- a walk that stops, with no value too large, is refused as it stops
+judged-stops : (vs : List Value) {why : Refusal} {t : Trace} → StopsWith why t → ((p : Placement) → In p t → RoundsWithin vs p) → judged vs t ≡ refused why
+unfolding judged
+judged-stops vs StopsWith.here all = refl
+judged-stops vs (StopsWith.there {p} {t} s) all = judged-past vs p (judged vs t) (all p here) ∙ judged-stops vs s (λ q m. all q (there m))
+
+-- a decimal that rounds beyond the limit is too large
+decimal-large : (x : Decimal) (d : ℕ) (r : ℤ) → Nearest (x .units) (x .places) d r → largest < natAbs r → tooLarge (x .units) (x .places) d ≡ true
+unfolding tooLarge
+decimal-large x d r n l =
+    lt-ltb largest (natAbs (roundedUnits (x .units) (x .places) d)) (subst (λ (k : ℤ). largest < natAbs k) (rounded-is (x .units) (x .places) d r .0 n) l)
+
+value-large : (w d : ℕ) (v : Value) (x : Decimal) → v ≡ value.Decimal x → tooLarge (x .units) (x .places) d ≡ true → fieldTooLarge (Field.F w d) v ≡ true
+unfolding fieldTooLarge
+value-large w d v x e l = ap (fieldTooLarge (Field.F w d)) e ∙ l
+
+-- the first such answers
+judged-large : (vs : List Value) {i : ℕ} {t : Trace} → TooLargeAt vs i t → judged vs t ≡ refused (TooLarge i)
+unfolding judged
+judged-large vs {i} (TooLargeAt.here {p} {t} {w} {d} {x} {r} q v n l) =
+    ap (λ what. judgedAt vs what (judged vs t)) q
+    ∙ ap (λ b. cond b (refused (TooLarge i)) (judged vs t)) (value-large w d (valueAt vs i) x v (decimal-large x d r n l))
+judged-large vs (TooLargeAt.there {p} {t} r l) = judged-past vs p (judged vs t) r ∙ judged-large vs l
+
+-- ---- what becomes of a call that passes the rows before
+
+module _ (c : Call) where
+  past-width : WidthRight c → becomes c ≡ checkFormat (c .R) (formats.outcome (c .format)) (listCheck (c .area) (c .list)) (valuesOf c) (length (c .buffer))
+  unfolding writingOf
+  past-width w = rw (le-leb 1 (c .R) (w .from), le-leb (c .R) 255 (w .to))
+
+  past-format : (xs : Items) → WidthRight c → Acceptable (c .format) xs → (k : ListCheck) → listCheck (c .area) (c .list) ≡ k → becomes c ≡ checkList (c .R) xs k (valuesOf c) (length (c .buffer))
+  past-format xs w f k e = past-width w ∙ rw (grammar.accepts-exactly (c .format) xs .1 f, e)
+
+  past-buffer : (xs : Items) → Walks c xs → becomes c ≡ walked (valuesOf c) (walkOf c xs)
+  past-buffer xs w =
+      let some = w .some-record in
+      let ne : length (c .buffer) / c .R ≡ 0 → ⊥ = λ z. omega arith in
+      past-format xs (w .width) (w .format) Good (w .list) ∙ rw (ne-eqb (length (c .buffer) / c .R) 0 ne)
+
+  -- an acceptable call is accepted
+  pub passes : (t : Trace) (n : ℕ) → AcceptableCall c t n → becomes c ≡ accepts t n
+  passes t n a =
+      let j = judged-accepts (valuesOf c) t n (a .ends) (λ p m. rounds-small (valuesOf c) p (a .rounds p m)) in
+      past-buffer (a .xs) (a .walks) ∙ rw (← a .is, j)
+
+  -- a walk refused refuses the call
+  walk-refuses : (xs : Items) (why : Refusal) → Walks c xs → judged (valuesOf c) (walkOf c xs) ≡ refused why → becomes c ≡ refuses why
+  walk-refuses xs why w e = past-buffer xs w ∙ ap (concluded (walkOf c xs)) e
+
+  width-refuses : (WidthRight c → ⊥) → becomes c ≡ refuses RecordWidth
+  unfolding writingOf
+  width-refuses h = go (widthRight (c .R)) refl
+    where
+      go : (b : Bool) → widthRight (c .R) ≡ b
+          → cond b (checkFormat (c .R) (formats.outcome (c .format)) (listCheck (c .area) (c .list)) (valuesOf c) (length (c .buffer))) (refuses RecordWidth) ≡ refuses RecordWidth
+      go true e = absurd (h (width-passed c e))
+      go false e = refl
+
+  -- ---- what it answers
+
+  -- the number k and the place p
+  abbrev pub AnswersSo : ℕ → ℕ → Type 0
+  AnswersSo k p = (answerNumber (answerTo c) ≡ k) × (answerPlace (answerTo c) ≡ p)
+
+  answers-as : {w : Writing} → becomes c ≡ w → AnswersSo (answerNumber (answerOf (valuesOf c) w)) (answerPlace (answerOf (valuesOf c) w))
+  answers-as e = (ap (λ w. answerNumber (answerOf (valuesOf c) w)) e, ap (λ w. answerPlace (answerOf (valuesOf c) w)) e)
+
+-- a row of the format check that is met answers there
+format-only : (s : List ℕ) {k p : ℕ} → formatted.AnsweredBy s k p → Answers s k p
+format-only s (formatted.AnsweredBy.acceptable {xs} h) =
+    let e = grammar.accepts-exactly s xs .1 h in
+    record { number-is = ap formats.outcomeNumber e; place-is = ap formats.outcomePlace e }
+format-only s (formatted.AnsweredBy.too-long {p} h) = grammar.length-refused s p .1 h
+format-only s (formatted.AnsweredBy.not-grammatical {p} h) = grammar.grammar-refused s p .1 h
+format-only s (formatted.AnsweredBy.out-of-range {p} h) = grammar.range-refused s p .1 h
+format-only s (formatted.AnsweredBy.too-large {p} h) = grammar.size-refused s p .1 h
+
+-- and so it does for the call
+format-refuses : (c : Call) (k p : ℕ) → WidthRight c → (k ≡ 0 → ⊥) → Answers (c .format) k p → AnswersSo c k p
+format-refuses c k p w ne a = go (formats.outcome (c .format)) refl
+  where
+    go : (o : formats.Outcome) → formats.outcome (c .format) ≡ o → AnswersSo c k p
+    go (formats.accepted xs) e = absurd (ne (sym (a .number-is) ∙ ap formats.outcomeNumber e))
+    go (formats.refused why) e =
+        let b : becomes c ≡ refuses (Format why) = past-width c w ∙ rw e in
+        let s = answers-as c b in
+        (s .0 ∙ sym (ap formats.outcomeNumber e) ∙ a .number-is, s .1 ∙ sym (ap formats.outcomePlace e) ∙ a .place-is)
+
+-- the row that is met answers, and no other
+pub meets-only : (c : Call) {k p : ℕ} → AnsweredBy c k p → AnswersSo c k p
+meets-only c (AnsweredBy.acceptable {t} {n} a) = answers-as c (passes c t n a)
+meets-only c (AnsweredBy.wrong-width h) = answers-as c (width-refuses c h)
+meets-only c (AnsweredBy.wrong-format {k} {p} w ne a) = format-refuses c k p w ne (format-only (c .format) a)
+meets-only c (AnsweredBy.bad-element {xs} {p} w f e) = answers-as c (past-format c xs w f (Bad p) e)
+meets-only c (AnsweredBy.no-record {xs} w f g e) =
+    let b : becomes c ≡ refuses NoRecord = past-format c xs w f Good g ∙ rw (eq-eqb (length (c .buffer) / c .R) 0 e) in
+    answers-as c b
+meets-only c (AnsweredBy.refused-walk {xs} {why} w s all) = answers-as c (walk-refuses c xs why w (judged-stops (valuesOf c) s all))
+meets-only c (AnsweredBy.too-large {xs} {i} w l) = answers-as c (walk-refuses c xs (TooLarge i) w (judged-large (valuesOf c) l))
