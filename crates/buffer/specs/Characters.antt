@@ -1,6 +1,8 @@
--- The bytes of characters that have a meaning in a field.
+-- The bytes of characters that have a meaning in a field, and those that a text may have.
 -- Assumes nothing.
+use mathlib.Core.Bool.{Bool, _&&_}
 use Prim.Native.Nat.{ℕ}
+use lib.Dec.{leb}
 
 abbrev pub blank : ℕ
 blank = 32
@@ -22,3 +24,7 @@ digitZero = 48
 
 abbrev pub digitNine : ℕ
 digitNine = 57
+
+-- 'bytes 32 to 126', as a test
+abbrev pub isPrintable : ℕ → Bool
+isPrintable x = leb 32 x && leb x 126

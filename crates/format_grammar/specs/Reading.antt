@@ -5,9 +5,9 @@
 use mathlib.Core.Bool.{Bool, true, false, _&&_, _||_, cond}
 use mathlib.Core.List.{List, [], _∷_, _++_}
 use Prim.Native.Nat.{ℕ, _+_, _-_, _*_}
-use lib.Dec.{ltb, leb, eqb}
+use lib.Dec.{ltb, eqb}
 use lib.ListN.{drop}
-use Rattle.buffer.specs.Characters.{decimalPoint, digitZero}
+use Rattle.buffer.specs.Characters.{decimalPoint, digitZero, isPrintable}
 use Rattle.number.specs.Digits.{isDigit}
 use Rattle.format_grammar.specs.Characters.{quotationMark, apostrophe, openingBracket, closingBracket, comma, slashSign, letterA, letterF, letterI, letterL, letterT, letterX}
 use Rattle.format_grammar.specs.Grammar.{levels}
@@ -151,7 +151,7 @@ unfoldable pub stepWithin : Mode → ℕ → ℕ → Items → Open → ℕ → 
 stepWithin (digits u from v) at l xs q b =
     pick (ltb at (from + 3) && isDigit b) (within (digits u from (v * 10 + (b - digitZero))) l xs q) (used u (written from at v) at l xs q b)
 stepWithin (inside m cs) at l xs q b =
-    pick (eqb b m) (within (mark m cs) l xs q) (pick (leb 32 b && leb b 126) (within (inside m (cs ++ b ∷ [])) l xs q) dead)
+    pick (eqb b m) (within (mark m cs) l xs q) (pick (isPrintable b) (within (inside m (cs ++ b ∷ [])) l xs q) dead)
 stepWithin (mark m cs) at l xs q b =
     pick (eqb b m) (within (inside m (cs ++ b ∷ [])) l xs q) (pick (isEmpty cs) dead (separated at l (join xs (Items.literal cs Items.none)) q b))
 stepWithin after at l xs q b = separated at l xs q b

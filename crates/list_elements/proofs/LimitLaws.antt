@@ -1,7 +1,7 @@
 -- The limits of an element, as the code tests them.
 -- Assumes nothing.
 use mathlib.Core.Path.{_≡_, refl, sym, subst, _∙_}
-use mathlib.Core.Bool.{Bool, true, false, _&&_}
+use mathlib.Core.Bool.{true, false, _&&_}
 use mathlib.Core.List.{List}
 use Prim.Native.Nat.{ℕ, _+_, _^_, _<_, _≤_}
 use native.Mathlib.Numerals.{add-one}
@@ -17,6 +17,7 @@ use mir.Syntax.{w64}
 use mir.Val.{toZ, ofZ}
 use Rattle.buffer.proofs.Splicing.{length-part, part-at}
 use Rattle.number.specs.Limits.{largest}
+use Rattle.buffer.specs.Characters.{isPrintable}
 use Rattle.list_elements.specs.Elements.{textBytes}
 use Rattle.list_elements.specs.Limits.{longestText, allPrintable, withinLimits}
 use Rattle.list_elements.specs.declared.Text.{Text}
@@ -41,10 +42,6 @@ under-largest (negsuc a) h = sym (leb·suc-suc a 999999999999999998)
 
 -- ---- the bytes of a text, one a turn
 
--- a byte is 32 to 126
-abbrev pub printableByte : ℕ → Bool
-printableByte b = leb 32 b && leb b 126
-
 -- the first i of the `len` bytes from `start` on are printable
 pub record Passed (area : List ℕ) (start len i : ℕ) : Type 0 where
   pub bound : i ≤ len
@@ -55,16 +52,16 @@ pub passed-none : {area : List ℕ} {start len : ℕ} → start + len ≤ length
 passed-none h = record { bound = omega arith; room = h; rest = refl }
 
 module _ {area : List ℕ} {start len i : ℕ} (p : Passed area start len i) where
-  next : i < len → allPrintable (drop i (take len (drop start area))) ≡ (printableByte (getD area (start + i) 0) && allPrintable (drop (i + 1) (take len (drop start area))))
+  next : i < len → allPrintable (drop i (take len (drop start area))) ≡ (isPrintable (getD area (start + i) 0) && allPrintable (drop (i + 1) (take len (drop start area))))
   unfolding allPrintable
   next h =
       let l : i < length (take len (drop start area)) = omega (arith, length-part area start len (p .room)) in
       rw (add-one i, drop-cons (take len (drop start area)) i 0 l, part-at area start len i h)
 
-  pub passed-more : i < len → printableByte (getD area (start + i) 0) ≡ true → Passed area start len (i + 1)
+  pub passed-more : i < len → isPrintable (getD area (start + i) 0) ≡ true → Passed area start len (i + 1)
   passed-more h e = record { bound = omega arith; room = p .room; rest = p .rest ∙ next h ∙ rw e }
 
-  pub passed-not : i < len → printableByte (getD area (start + i) 0) ≡ false → false ≡ allPrintable (take len (drop start area))
+  pub passed-not : i < len → isPrintable (getD area (start + i) 0) ≡ false → false ≡ allPrintable (take len (drop start area))
   passed-not h e = sym (p .rest ∙ next h ∙ rw e)
 
   pub passed-all : len ≤ i → true ≡ allPrintable (take len (drop start area))

@@ -6,6 +6,7 @@ use Prim.Native.Nat.{ℕ, _+_}
 use lib.Dec.{leb, ltb}
 use lib.IntN.{natAbs}
 use lib.ListN.{length, take}
+use Rattle.buffer.specs.Characters.{isPrintable}
 use Rattle.number.specs.Limits.{largest, mostPlaces}
 use Rattle.list_elements.specs.Elements.{values, textBytes}
 use Rattle.list_elements.specs.declared.Value.{Value}
@@ -25,7 +26,7 @@ longestText = 64
 -- 'bytes 32 to 126'
 unfoldable pub allPrintable : List ℕ → Bool
 allPrintable [] = true
-allPrintable (x ∷ xs) = (leb 32 x && leb x 126) && allPrintable xs
+allPrintable (x ∷ xs) = isPrintable x && allPrintable xs
 
 -- an element is within 'its limits' and 'the text area'
 unfoldable pub withinLimits : List ℕ → Value → Bool

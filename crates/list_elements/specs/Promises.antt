@@ -10,7 +10,6 @@ use Rattle.list_elements.specs.Elements.{zeroValue, values}
 use Rattle.list_elements.specs.Limits.{mostElements, withinLimits, checkNumber, checkPlace, listCheck}
 use Rattle.list_elements.specs.declared.Value.{Value}
 use Rattle.list_elements.specs.declared.List as carried
-use Rattle.list_elements.specs.declared.ListCheck.the-variants.{Good, Bad}
 
 -- the values before place i are within their limits
 abbrev pub GoodUpTo : List ℕ → List Value → ℕ → Type 0

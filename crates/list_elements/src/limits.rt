@@ -10,6 +10,7 @@ ghost use lib.Dec.{leb};
 ghost use lib.IntN.{natAbs};
 ghost use lib.ListN.{length, take, drop};
 ghost use Rattle.number.specs.Limits.{largest, mostPlaces};
+ghost use Rattle.buffer.specs.Characters.{isPrintable};
 ghost use Rattle.list_elements.specs.Limits.{allPrintable, withinLimits};
 
 // The longest text.
@@ -35,7 +36,7 @@ fn decimal_within(d: Decimal) -> bool
 }
 
 fn is_printable(b: u8) -> bool
-    ensures { λ r. ⌜ r ≡ (leb 32 b && leb b 126) ⌝ }
+    ensures { λ r. ⌜ r ≡ isPrintable b ⌝ }
 {
     if b < 32 {
         return false;

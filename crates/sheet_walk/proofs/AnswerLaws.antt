@@ -1,15 +1,12 @@
 -- What the code's steps answer, from what their tests say.
 -- Assumes nothing.
 use mathlib.Core.Path.{_≡_, refl, sym, _∙_}
-use mathlib.Core.List.{List, [], _∷_, map}
+use mathlib.Core.List.{List, map}
 use Prim.Native.Nat.{ℕ, zero, suc, _+_, _-_, _*_, _%_, _^_, _<_, _≤_}
-use native.Mathlib.Nat.{suc-mul, mul-le-mul-right}
-use native.Mathlib.Numerals.{add-one}
 use native.Mathlib.Omega.{arith}
 use borrow.Author.Tests.{le-leb, lt-leb, eq-eqb, ne-eqb}
 use lib.Dec.{eqb}
-use lib.ListN.{length, getD, drop, length-map, List·getD-map, drop-of-length-le}
-use lib.Seq.{drop-cons}
+use lib.ListN.{length, getD, drop}
 use Rattle.format_grammar.specs.Items.{Field}
 use Rattle.list_elements.specs.Apart.{kindFrom}
 use Rattle.sheet_walk.specs.Steps.{state, What, element, suits, fieldWidth, coverStep, fieldStep}
@@ -19,14 +16,12 @@ use Rattle.sheet_walk.specs.declared.Records.{Records}
 use Rattle.sheet_walk.specs.declared.State.{State}
 use Rattle.sheet_walk.specs.declared.Step.{Step}
 use Rattle.sheet_walk.specs.declared.Step.the-variants as answer
+use Rattle.sheet_walk.proofs.ItemLaws.{mapped-more, mapped-none}
+use Rattle.sheet_walk.proofs.Windows.{record-room}
 
--- a whole record fits after those before it
-pub room : (r n w : ℕ) → r < n → r * w + w ≤ n * w
-room r n w h = rw (← suc-mul r w) (mul-le-mul-right w h)
-
--- so the offset of a column fits a machine's number
+-- the offset of a column fits into a machine word
 pub offset-fits : {rs : Records} {s : State} → Standing rs s → s .row * rs .width + (s .column - 1) < 2 ^ 63
-offset-fits {rs} {s} h = omega (arith, room (s .row) (rs .count) (rs .width) (h .in-record), h .from, h .to, h .fits)
+offset-fits {rs} {s} h = omega (arith, record-room (s .row) (rs .count) (rs .width) (h .in-record), h .from, h .to, h .fits)
 
 -- ---- covering
 
@@ -38,18 +33,6 @@ module _ (rs : Records) (s : State) (w taken : ℕ) (h : s .column ≤ rs .width
   pub cover-refused : rs .width + 1 - s .column < w → (what : What)
       → answer.Refused (refusal.Column (s .taken)) ≡ stepAnswer (rs .width) (coverStep rs s what w taken)
   cover-refused l what = let g : rs .width + 1 < s .column + w = omega arith in rw (lt-leb (s .column + w) (rs .width + 1) g)
-
--- ---- a list of kinds as numbers
-
-pub kinds-more : (ks : List ℕ) (i : ℕ) → i < length ks → drop i (map kindFrom ks) ≡ kindFrom (getD ks i 0) ∷ drop (i + 1) (map kindFrom ks)
-kinds-more ks i h =
-    let hm : i < length (map kindFrom ks) = rw length-map h in
-    rw (add-one, drop-cons (map kindFrom ks) i (kindFrom 0) hm, List·getD-map kindFrom ks i 0)
-
-pub kinds-none : (ks : List ℕ) (i : ℕ) → length ks ≤ i → drop i (map kindFrom ks) ≡ []
-kinds-none ks i h =
-    let hm : length (map kindFrom ks) ≤ i = rw length-map h in
-    drop-of-length-le (map kindFrom ks) hm
 
 -- ---- fields
 
@@ -95,13 +78,13 @@ module _ (rs : Records) (s : State) (ks : List ℕ) (kind width : ℕ) (f : Fiel
   field-covers h e g =
       let k = getD ks (s .taken) 0 in
       let w : fieldWidth f (kindFrom k) ≡ width = width-is f k (e ∙ sym fk) ∙ fc in
-      rw (kinds-more ks (s .taken) h, suits-is f k, fk, eq-eqb (k % 4) kind e, w) (g (element (s .taken) f))
+      rw (mapped-more kindFrom ks (s .taken) h, suits-is f k, fk, eq-eqb (k % 4) kind e, w) (g (element (s .taken) f))
 
   pub field-refused : s .taken < length ks → (getD ks (s .taken) 0 % 4 ≡ kind → ⊥)
       → answer.Refused (refusal.Kind (s .taken)) ≡ stepAnswer (rs .width) (fieldStep rs s f (drop (s .taken) (map kindFrom ks)))
   field-refused h e =
       let k = getD ks (s .taken) 0 in
-      rw (kinds-more ks (s .taken) h, suits-is f k, fk, ne-eqb (k % 4) kind e)
+      rw (mapped-more kindFrom ks (s .taken) h, suits-is f k, fk, ne-eqb (k % 4) kind e)
 
   pub field-ends : length ks ≤ s .taken → answer.Ends ≡ stepAnswer (rs .width) (fieldStep rs s f (drop (s .taken) (map kindFrom ks)))
-  field-ends h = rw (kinds-none ks (s .taken) h)
+  field-ends h = rw (mapped-none kindFrom ks (s .taken) h)

@@ -16,17 +16,19 @@ use Rattle.format_words.proofs.WordKinds.{is-I, is-F, is-L, is-A, is-Aw, is-X, 
 use Rattle.format_run.specs.Runs.{RunWord, RunWords}
 use Rattle.sheet_walk.specs.Steps.{isField, hasField}
 
--- ---- the items from an index on
+-- ---- from an index on
 
-pub items-more : (t ws : List ℕ) (i : ℕ) → i < length ws → drop i (map (metOf t) ws) ≡ metOf t (getD ws i 0) ∷ drop (i + 1) (map (metOf t) ws)
-items-more t ws i h =
-    let hm : i < length (map (metOf t) ws) = rw length-map h in
-    rw (add-one, drop-cons (map (metOf t) ws) i (metOf t 0) hm, List·getD-map (metOf t) ws i 0)
+-- of a list of numbers, each taken for something
+module _ {A : Type 0} (f : ℕ → A) (ws : List ℕ) (i : ℕ) where
+  pub mapped-more : i < length ws → drop i (map f ws) ≡ f (getD ws i 0) ∷ drop (i + 1) (map f ws)
+  mapped-more h =
+      let hm : i < length (map f ws) = rw length-map h in
+      rw (add-one, drop-cons (map f ws) i (f 0) hm, List·getD-map f ws i 0)
 
-pub items-none : (t ws : List ℕ) (i : ℕ) → length ws ≤ i → drop i (map (metOf t) ws) ≡ []
-items-none t ws i h =
-    let hm : length (map (metOf t) ws) ≤ i = rw length-map h in
-    drop-of-length-le (map (metOf t) ws) hm
+  pub mapped-none : length ws ≤ i → drop i (map f ws) ≡ []
+  mapped-none h =
+      let hm : length (map f ws) ≤ i = rw length-map h in
+      drop-of-length-le (map f ws) hm
 
 -- inside a list the default does not matter
 pub item-at : (t ws : List ℕ) (i : ℕ) (d : Met) → i < length ws → getD (map (metOf t) ws) i d ≡ metOf t (getD ws i 0)
@@ -60,15 +62,15 @@ field-is t w = field-by t w (kindOf w) refl
 module _ (t ws : List ℕ) (i : ℕ) where
   pub has-found : i < length ws → true ≡ isField (metOf t (getD ws i 0)) → true ≡ hasField (drop i (map (metOf t) ws))
   unfolding hasField
-  has-found h e = rw (items-more t ws i h, ← e)
+  has-found h e = rw (mapped-more (metOf t) ws i h, ← e)
 
   pub has-not : i < length ws → false ≡ isField (metOf t (getD ws i 0)) → hasField (drop i (map (metOf t) ws)) ≡ hasField (drop (i + 1) (map (metOf t) ws))
   unfolding hasField
-  has-not h e = rw (items-more t ws i h, ← e)
+  has-not h e = rw (mapped-more (metOf t) ws i h, ← e)
 
   pub has-none : length ws ≤ i → false ≡ hasField (drop i (map (metOf t) ws))
   unfolding hasField
-  has-none h = rw (items-none t ws i h)
+  has-none h = rw (mapped-none (metOf t) ws i h)
 
 -- ---- literals
 

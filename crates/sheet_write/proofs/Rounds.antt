@@ -24,6 +24,7 @@ use Rattle.sheet_walk.specs.declared.Refusal.{Refusal}
 use Rattle.sheet_walk.specs.declared.Refusal.the-variants.{TooLarge}
 use Rattle.sheet_walk.proofs.Covering.{in-put, in-done, in-stopped}
 use Rattle.write_passes.specs.Placed.{valueAt, fieldTooLarge, Judged, accepted, refused, judgedAt, judged}
+use Rattle.write_passes.proofs.ValueLaws.{no-way}
 use Rattle.sheet_write.specs.Promises.{RoundsWithin, TooLargeAt}
 
 -- ---- one value
@@ -59,7 +60,7 @@ abbrev Large : Field ℕ → Value → Type 0
 Large f v = (u : ℕ) × (d : ℕ) × (x : Decimal) × (r : ℤ) × (f ≡ Field.F u d) × (v ≡ value.Decimal x) × Nearest (x .units) (x .places) d r × (largest < natAbs r)
 
 clash : {A : Type 0} {b : Bool} → b ≡ true → b ≡ false → A
-clash e f = let z : _≡_ {A = ℕ} 0 1 = cc in absurd (omega arith)
+clash e f = no-way (sym f ∙ e)
 
 field-large : (f : Field ℕ) (v : Value) → fieldTooLarge f v ≡ true → Large f v
 unfolding fieldTooLarge tooLarge

@@ -24,10 +24,8 @@ use Rattle.sheet_walk.specs.Walk.{Trace, put, done, stopped}
 use Rattle.sheet_walk.specs.Columns.{In, here, there}
 use Rattle.sheet_walk.specs.Promises.{Suited}
 use Rattle.write_passes.specs.Placed.{integerOf, decimalOf, valueAt, fieldCharacters, fieldStarred, starredOf, isStarred, starredIn}
+use Rattle.write_passes.proofs.ValueLaws.{no-way}
 use Rattle.sheet_write.specs.Promises.{numeric, NoNumeral, Shows, Unrepresentable, Counted}
-
-clash : {A : Type 0} → false ≡ true → A
-clash e = let z : _≡_ {A = ℕ} 0 1 = cc in absurd (omega arith)
 
 -- ---- one field of a value that suits it
 
@@ -59,16 +57,16 @@ stars-none : (area : List ℕ) (f : Field ℕ) (k : Kind) (v : Value) → suits 
     → (fieldCharacters area f (fieldWidth f k) v ≡ replicate (fieldWidth f k) asterisk) ↔ NoNumeral v f
 unfolding fieldCharacters
 stars-none area (Field.I w) k (value.Integer n) s e = integer-none n w
-stars-none area (Field.I w) k (value.Decimal x) s e = clash s
-stars-none area (Field.I w) k (value.Logical b) s e = clash s
-stars-none area (Field.I w) k (value.Text t) s e = clash s
-stars-none area (Field.F w d) k (value.Integer n) s e = clash s
+stars-none area (Field.I w) k (value.Decimal x) s e = no-way s
+stars-none area (Field.I w) k (value.Logical b) s e = no-way s
+stars-none area (Field.I w) k (value.Text t) s e = no-way s
+stars-none area (Field.F w d) k (value.Integer n) s e = no-way s
 stars-none area (Field.F w d) k (value.Decimal x) s e = decimal-none x d w
-stars-none area (Field.F w d) k (value.Logical b) s e = clash s
-stars-none area (Field.F w d) k (value.Text t) s e = clash s
-stars-none area (Field.L w) k v s e = clash e
-stars-none area Field.A k v s e = clash e
-stars-none area (Field.Aw w) k v s e = clash e
+stars-none area (Field.F w d) k (value.Logical b) s e = no-way s
+stars-none area (Field.F w d) k (value.Text t) s e = no-way s
+stars-none area (Field.L w) k v s e = no-way e
+stars-none area Field.A k v s e = no-way e
+stars-none area (Field.Aw w) k v s e = no-way e
 
 -- whether it is starred
 starred-none : (f : Field ℕ) (k : Kind) (v : Value) → suits f (kindOf v) ≡ true → (fieldStarred f (fieldWidth f k) v ≡ true) ↔ NoNumeral v f
@@ -81,9 +79,9 @@ starred-none (Field.F w d) k v s =
     let a = fields.starred-is plain (Numeric.F d) w (roundedUnits (decimalOf v .units) (decimalOf v .places) d) in
     let b = stars-none [] (Field.F w d) k v s refl in
     ((λ e. b .0 (a .0 e)), (λ e. a .1 (b .1 e)))
-starred-none (Field.L w) k v s = (clash, elim [ ])
-starred-none Field.A k v s = (clash, elim [ ])
-starred-none (Field.Aw w) k v s = (clash, elim [ ])
+starred-none (Field.L w) k v s = (no-way, elim [ ])
+starred-none Field.A k v s = (no-way, elim [ ])
+starred-none (Field.Aw w) k v s = (no-way, elim [ ])
 
 -- where there is a numeral, the field is one
 not-starred : (f : Field ℕ) (k : Kind) (v : Value) → suits f (kindOf v) ≡ true → (NoNumeral v f → ⊥) → fieldStarred f (fieldWidth f k) v ≡ false
@@ -99,19 +97,19 @@ unfolding fieldCharacters fieldStarred
 shows area (Field.I w) k (value.Integer n) s e none =
     let u = fields.unstarred-is-numeral plain Numeric.I w n (not-starred (Field.I w) k (value.Integer n) s none) in
     Shows.integer-shown (u .0) refl (u .1) (u .2)
-shows area (Field.I w) k (value.Decimal x) s e none = clash s
-shows area (Field.I w) k (value.Logical b) s e none = clash s
-shows area (Field.I w) k (value.Text t) s e none = clash s
-shows area (Field.F w d) k (value.Integer n) s e none = clash s
+shows area (Field.I w) k (value.Decimal x) s e none = no-way s
+shows area (Field.I w) k (value.Logical b) s e none = no-way s
+shows area (Field.I w) k (value.Text t) s e none = no-way s
+shows area (Field.F w d) k (value.Integer n) s e none = no-way s
 shows area (Field.F w d) k (value.Decimal x) s e none =
     let r : ℤ = roundedUnits (x .units) (x .places) d in
     let u = fields.unstarred-is-numeral plain (Numeric.F d) w r (not-starred (Field.F w d) k (value.Decimal x) s none) in
     Shows.decimal-shown (u .0) refl (rounded-is (x .units) (x .places) d r .1 refl) (u .1) (u .2)
-shows area (Field.F w d) k (value.Logical b) s e none = clash s
-shows area (Field.F w d) k (value.Text t) s e none = clash s
-shows area (Field.L w) k v s e none = clash e
-shows area Field.A k v s e none = clash e
-shows area (Field.Aw w) k v s e none = clash e
+shows area (Field.F w d) k (value.Logical b) s e none = no-way s
+shows area (Field.F w d) k (value.Text t) s e none = no-way s
+shows area (Field.L w) k v s e none = no-way e
+shows area Field.A k v s e none = no-way e
+shows area (Field.Aw w) k v s e none = no-way e
 
 -- ---- a placement, its field having an element of its kind
 
@@ -138,7 +136,7 @@ starred-so vs p s = (go (p .what) refl, back)
   where
     go : (what : What) → p .what ≡ what → starredOf vs (p .width) what ≡ true → Unrepresentable vs p
     go (element i f) q e = record { i = i; f = f; is = q; none = field-starred vs i f (p .width) (s i f q) .0 e }
-    go (literal cs) q e = clash e
+    go (literal cs) q e = no-way e
 
     back : Unrepresentable vs p → isStarred vs p ≡ true
     back u = ap (starredOf vs (p .width)) (u .is) ∙ field-starred vs (u .i) (u .f) (p .width) (s (u .i) (u .f) (u .is)) .1 (u .none)
@@ -148,7 +146,7 @@ starred-so vs p s = (go (p .what) refl, back)
 -- the starred number counts them
 count-one : (P : Placement → Type 0) (p : Placement) (t : Trace) (k : ℕ) (b : Bool) → (b ≡ true) ↔ P p → Counted P t k → Counted P (put p t) (cond b 1 0 + k)
 count-one P p t k true s c = subst (Counted P (put p t)) (omega arith) (Counted.counts (s .0 refl) c)
-count-one P p t k false s c = subst (Counted P (put p t)) (omega arith) (Counted.passes (λ u. clash (s .1 u)) c)
+count-one P p t k false s c = subst (Counted P (put p t)) (omega arith) (Counted.passes (λ u. no-way (s .1 u)) c)
 
 pub counted : (vs : List Value) (t : Trace) → ((p : Placement) → In p t → SuitedAt vs p) → Counted (Unrepresentable vs) t (starredIn vs t)
 unfolding starredIn
