@@ -1,7 +1,7 @@
 -- A list taken apart into three lists of numbers, so that one core serves any list: for each element a kind, an amount and a
 -- detail. (Nothing here need be believed: the contracts of public calls speak of the list.)
 -- Assumes nothing.
-use mathlib.Core.Bool.{Bool, true, false, cond}
+use mathlib.Core.Bool.{cond}
 use mathlib.Core.Path.{_≡_}
 use mathlib.Core.List.{List, map}
 use Prim.Native.Nat.{ℕ, _*_, _+_, _/_, _%_}
@@ -18,14 +18,10 @@ kindNumber (Decimal d) = 1
 kindNumber (Logical b) = 2
 kindNumber (Text t) = t .len * 4 + 3
 
--- the first of two kinds where a test holds, else the second
-abbrev pub pickKind : Bool → Kind → Kind → Kind
-pickKind true a b = a
-pickKind false a b = b
-
+-- and back
 unfoldable pub kindFrom : ℕ → Kind
 kindFrom k =
-    pickKind (eqb (k % 4) 0) integer (pickKind (eqb (k % 4) 1) decimal (pickKind (eqb (k % 4) 2) logical (text (k / 4))))
+    cond (eqb (k % 4) 0) integer (cond (eqb (k % 4) 1) decimal (cond (eqb (k % 4) 2) logical (text (k / 4))))
 
 -- the amount: n, units, 1 for true and 0 for false
 abbrev pub amount : Value → ℤ

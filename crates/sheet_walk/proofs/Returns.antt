@@ -1,4 +1,4 @@
--- The count of returns is never felt: each return takes at least one element.
+-- The count of returns never decides how the walk ends: each return takes at least one element.
 -- Assumes nothing.
 use mathlib.Core.Path.{_≡_, refl, ap}
 use mathlib.Core.List.{List, [], _∷_}
