@@ -1,6 +1,7 @@
 -- The bytes of characters that have a meaning in a field, and those that a text may have.
 -- Assumes nothing.
-use mathlib.Core.Bool.{Bool, _&&_}
+use mathlib.Core.Bool.{Bool, true, _&&_}
+use mathlib.Core.List.{List, [], _∷_}
 use Prim.Native.Nat.{ℕ}
 use lib.Dec.{leb}
 
@@ -28,3 +29,8 @@ digitNine = 57
 -- 'bytes 32 to 126', as a test
 abbrev pub isPrintable : ℕ → Bool
 isPrintable x = leb 32 x && leb x 126
+
+-- of all bytes
+unfoldable pub allPrintable : List ℕ → Bool
+allPrintable [] = true
+allPrintable (x ∷ xs) = isPrintable x && allPrintable xs

@@ -1,4 +1,6 @@
-// Bytes laid into a lent buffer.
+// Bytes laid into a lent buffer, and the bytes that a text may have.
+pub mod characters;
+
 ghost use mathlib.Core.Path.{_≡_};
 ghost use Prim.Native.Nat.{_+_, _≤_};
 ghost use lib.ListN.{length, replicate, take, drop};

@@ -1,3 +1,5 @@
 pub mod Read
+pub mod LogicalRead
+pub mod TextRead
 pub mod Promises
 pub mod Steps

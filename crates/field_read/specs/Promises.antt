@@ -1,15 +1,22 @@
 -- What the theorems of proofs/Promises.antt say of the fields read.
 -- Assumes nothing.
 use mathlib.Core.Path.{_≡_}
-use mathlib.Core.Bool.{false}
+use mathlib.Core.Logic.{_↔_}
+use mathlib.Core.Bool.{Bool, true, false, cond}
+use mathlib.Core.List.{List, [], _∷_, _++_}
 use Prim.Native.Nat.{ℕ, _<_, _≤_}
-use lib.ListN.{replicate}
+use lib.ListN.{length, replicate}
 use lib.IntN.{ℤ, natAbs}
-use Rattle.buffer.specs.Characters.{asterisk}
+use Rattle.buffer.specs.Characters.{blank, asterisk, decimalPoint, allPrintable}
 use Rattle.number.specs.Limits.{largest, mostPlaces}
 use Rattle.field_written.specs.Numeral.{Setting, Numeric, I, F, places, Numeral, characters, standsFor}
 use Rattle.field_written.specs.Written.{field, starred, decimalField, putDecimal, putRefusal, putStarred}
+use Rattle.field_written.specs.LogicalField.{letter, logicalField}
+use Rattle.field_written.specs.TextField.{textField}
 use Rattle.field_read.specs.Read.{readField, readRefusal, Gives, shownInteger, shownUnits, shownPlaces}
+use Rattle.field_read.specs.LogicalRead.{logicalRead}
+use Rattle.field_read.specs.TextRead.{textReadable, textRead, shownText}
+use Rattle.field_read.specs.declared.LogicalRead.the-variants.{Truth}
 
 -- every numeral of width w, within the limits, reads back as the number that it stands for, under F with d places
 abbrev pub NumeralReads : Type 0
@@ -29,3 +36,31 @@ DecimalReadsBack =
 -- w asterisks are refusal 12
 abbrev pub StarsRefused : Type 0
 StarsRefused = (f : Numeric) (w : ℕ) → 0 < w → readRefusal (readField f (replicate w asterisk)) ≡ 12
+
+-- ---- logicals
+
+-- 'blanks or none, an optional period, T or F, then anything'
+pub record SpellsLogical (t : List ℕ) (b : Bool) : Type 0 where
+  pub blanks : ℕ
+  pub period : Bool
+  pub rest : List ℕ
+  pub is : t ≡ replicate blanks blank ++ cond period (decimalPoint ∷ []) [] ++ letter b ∷ rest
+
+-- a field is read as b exactly when it is so spelled
+abbrev pub LogicalReadIs : Type 0
+LogicalReadIs = (t : List ℕ) (b : Bool) → (logicalRead t ≡ Truth b) ↔ SpellsLogical t b
+
+-- the field of a logical reads back
+abbrev pub LogicalReadsBack : Type 0
+LogicalReadsBack = (w : ℕ) (b : Bool) → 1 ≤ w → logicalRead (logicalField w b) ≡ Truth b
+
+-- ---- texts
+
+-- a text that is read has the length wanted
+abbrev pub TextReadLength : Type 0
+TextReadLength = (m : ℕ) (t : List ℕ) → length (textRead m t) ≡ m
+
+-- the field of a text within its limits is readable, and reads back as the shown value
+abbrev pub TextReadsBack : Type 0
+TextReadsBack =
+    (w : ℕ) (text : List ℕ) → allPrintable text ≡ true → (textReadable (textField w text) ≡ true) × (textRead (length text) (textField w text) ≡ shownText w text)

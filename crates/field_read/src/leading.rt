@@ -4,7 +4,7 @@ use field_written::Sign;
 ghost use Rattle.field_read.specs.Steps.{Skipped, FrontIs};
 
 // The first offset that is not blank.
-fn skip_blanks(part: &[u8]) -> usize
+pub fn skip_blanks(part: &[u8]) -> usize
     ensures { λ r. ⌜ Skipped (now (part .entry)) r ⌝ }
 {
     let mut i: usize = 0;

@@ -1,4 +1,4 @@
-// Numeric fields read: integers under Iw, decimals under Fw.d.
+// Fields read: integers under Iw, decimals under Fw.d, logicals under Lw, texts under Aw.
 mod answer;
 pub mod decimal;
 mod digits;
@@ -10,6 +10,12 @@ use field_written::Sign;
 // A field read: units and places (0 under I), or no number.
 pub enum FieldRead {
     Number { units: i64, places: usize },
+    Refused,
+}
+
+// A logical field read.
+pub enum LogicalRead {
+    Truth(bool),
     Refused,
 }
 

@@ -12,10 +12,11 @@ use lib.IntN.{ℤ, pos, natAbs}
 use lib.ListN.{length, getD, take, length-map, length-take, List·getD-map}
 use lib.Seq.{take-all}
 use borrow.Author.Tests.{leb-true, ltb-false}
+use Rattle.buffer.specs.Characters.{allPrintable}
 use Rattle.buffer.proofs.Splicing.{length-part}
 use Rattle.number.specs.Limits.{largest, mostPlaces}
 use Rattle.list_elements.specs.Elements.{kindOf, valueOf, zeroValue, values, textBytes}
-use Rattle.list_elements.specs.Limits.{mostElements, longestText, allPrintable, withinLimits, firstBad, overLimit, checkValues, listCheck}
+use Rattle.list_elements.specs.Limits.{mostElements, longestText, withinLimits, firstFailing, overLimit, checkValues, checkList}
 use Rattle.list_elements.specs.Apart.{kindNumber, kindFrom, amount, detail, Apart}
 use Rattle.list_elements.specs.declared.Decimal.{Decimal}
 use Rattle.list_elements.specs.declared.Text.{Text}
@@ -114,21 +115,21 @@ kind-small area (value.Text t) e = omega (arith, within-text area t e)
 pub bad-not-good : {P : Type 0} {i : ℕ} → Bad i ≡ Good → P
 bad-not-good e = let z : _≡_ {A = ℕ} 0 1 = cc in absurd (omega arith)
 
-good-first : (area : List ℕ) (j : ℕ) (v : Value) (vs : List Value) → firstBad area j (v ∷ vs) ≡ Good → (withinLimits area v ≡ true) × (firstBad area (j + 1) vs ≡ Good)
-unfolding firstBad
-good-first area j v vs e = go (withinLimits area v) refl e
+good-first : (test : Value → Bool) (j : ℕ) (v : Value) (vs : List Value) → firstFailing test j (v ∷ vs) ≡ Good → (test v ≡ true) × (firstFailing test (j + 1) vs ≡ Good)
+unfolding firstFailing
+good-first test j v vs e = go (test v) refl e
   where
-    go : (b : Bool) → withinLimits area v ≡ b → cond b (firstBad area (j + 1) vs) (Bad j) ≡ Good → (withinLimits area v ≡ true) × (firstBad area (j + 1) vs ≡ Good)
+    go : (b : Bool) → test v ≡ b → cond b (firstFailing test (j + 1) vs) (Bad j) ≡ Good → (test v ≡ true) × (firstFailing test (j + 1) vs ≡ Good)
     go true p f = (p, f)
     go false p f = bad-not-good f
 
-good-from : (area : List ℕ) (j : ℕ) (vs : List Value) → firstBad area j vs ≡ Good → (i : ℕ) → i < length vs → withinLimits area (getD vs i zeroValue) ≡ true
-good-from area j [] e i h = absurd (not-suc-le-zero h)
-good-from area j (v ∷ vs) e zero h = good-first area j v vs e .0
-good-from area j (v ∷ vs) e (suc i) h = good-from area (j + 1) vs (good-first area j v vs e .1) i (le-of-suc-le-suc h)
+good-from : (test : Value → Bool) (j : ℕ) (vs : List Value) → firstFailing test j vs ≡ Good → (i : ℕ) → i < length vs → test (getD vs i zeroValue) ≡ true
+good-from test j [] e i h = absurd (not-suc-le-zero h)
+good-from test j (v ∷ vs) e zero h = good-first test j v vs e .0
+good-from test j (v ∷ vs) e (suc i) h = good-from test (j + 1) vs (good-first test j v vs e .1) i (le-of-suc-le-suc h)
 
-pub good-at : (area : List ℕ) (vs : List Value) → firstBad area 0 vs ≡ Good → (i : ℕ) → i < length vs → withinLimits area (getD vs i zeroValue) ≡ true
-good-at area vs e i h = good-from area 0 vs e i h
+pub good-at : (test : Value → Bool) (vs : List Value) → firstFailing test 0 vs ≡ Good → (i : ℕ) → i < length vs → test (getD vs i zeroValue) ≡ true
+good-at test vs e i h = good-from test 0 vs e i h
 
 -- a list has no more values than its count says
 pub values-most : (l : carried.List) → length (values l) ≤ l .count
@@ -143,9 +144,9 @@ over-good most count Good e = (refl, go (ltb most count) refl e)
     go false p f = ltb-false most count p
 over-good most count (Bad i) e = bad-not-good e
 
-pub check-good : (area : List ℕ) (l : carried.List) → listCheck area l ≡ Good → (firstBad area 0 (values l) ≡ Good) × (l .count ≤ mostElements)
+pub check-good : (test : Value → Bool) (l : carried.List) → checkList test l ≡ Good → (firstFailing test 0 (values l) ≡ Good) × (l .count ≤ mostElements)
 unfolding checkValues
-check-good area l e =
-    let w = over-good mostElements (l .count) (firstBad area 0 (take mostElements (values l))) e in
+check-good test l e =
+    let w = over-good mostElements (l .count) (firstFailing test 0 (take mostElements (values l))) e in
     let h : length (values l) ≤ mostElements = omega (arith, values-most l) in
     (rw (take-all mostElements (values l) h) at (w .0), w .1)

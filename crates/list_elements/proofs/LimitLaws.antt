@@ -4,22 +4,19 @@ use mathlib.Core.Path.{_≡_, refl, sym, subst, _∙_}
 use mathlib.Core.Bool.{true, false, _&&_}
 use mathlib.Core.List.{List}
 use Prim.Native.Nat.{ℕ, _+_, _^_, _<_, _≤_}
-use native.Mathlib.Numerals.{add-one}
 use native.Mathlib.Omega.{arith}
 use lib.Dec.{T, leb, leb·suc-suc}
 use lib.IntN.{ℤ, pos, negsuc, natAbs}
-use lib.ListN.{length, take, drop, getD, drop-of-length-le}
-use lib.Seq.{drop-cons}
+use lib.ListN.{length, take, drop}
 use lib.Signed.{mag, ltZ, leZ}
 use borrow.Author.Tests.{le-leb, lt-leb, ltb-true, ltb-false}
 use mir.Facts.{toZ-ofZ}
 use mir.Syntax.{w64}
 use mir.Val.{toZ, ofZ}
-use Rattle.buffer.proofs.Splicing.{length-part, part-at}
 use Rattle.number.specs.Limits.{largest}
-use Rattle.buffer.specs.Characters.{isPrintable}
+use Rattle.buffer.specs.Characters.{allPrintable}
 use Rattle.list_elements.specs.Elements.{textBytes}
-use Rattle.list_elements.specs.Limits.{longestText, allPrintable, withinLimits}
+use Rattle.list_elements.specs.Limits.{longestText, withinLimits}
 use Rattle.list_elements.specs.declared.Text.{Text}
 use Rattle.list_elements.specs.declared.Value.the-variants as value
 
@@ -39,36 +36,6 @@ over-largest (negsuc a) h = absurd (subst T (sym h) tt)
 pub under-largest : (n : ℤ) → ltZ (pos largest) n ≡ false → leZ (negsuc 999999999999999998) n ≡ leb (natAbs n) largest
 under-largest (pos a) h = sym (le-leb a largest (ltb-false largest a h))
 under-largest (negsuc a) h = sym (leb·suc-suc a 999999999999999998)
-
--- ---- the bytes of a text, one a turn
-
--- the first i of the `len` bytes from `start` on are printable
-pub record Passed (area : List ℕ) (start len i : ℕ) : Type 0 where
-  pub bound : i ≤ len
-  pub room : start + len ≤ length area
-  pub rest : allPrintable (take len (drop start area)) ≡ allPrintable (drop i (take len (drop start area)))
-
-pub passed-none : {area : List ℕ} {start len : ℕ} → start + len ≤ length area → Passed area start len 0
-passed-none h = record { bound = omega arith; room = h; rest = refl }
-
-module _ {area : List ℕ} {start len i : ℕ} (p : Passed area start len i) where
-  next : i < len → allPrintable (drop i (take len (drop start area))) ≡ (isPrintable (getD area (start + i) 0) && allPrintable (drop (i + 1) (take len (drop start area))))
-  unfolding allPrintable
-  next h =
-      let l : i < length (take len (drop start area)) = omega (arith, length-part area start len (p .room)) in
-      rw (add-one i, drop-cons (take len (drop start area)) i 0 l, part-at area start len i h)
-
-  pub passed-more : i < len → isPrintable (getD area (start + i) 0) ≡ true → Passed area start len (i + 1)
-  passed-more h e = record { bound = omega arith; room = p .room; rest = p .rest ∙ next h ∙ rw e }
-
-  pub passed-not : i < len → isPrintable (getD area (start + i) 0) ≡ false → false ≡ allPrintable (take len (drop start area))
-  passed-not h e = sym (p .rest ∙ next h ∙ rw e)
-
-  pub passed-all : len ≤ i → true ≡ allPrintable (take len (drop start area))
-  unfolding allPrintable
-  passed-all h =
-      let l : length (take len (drop start area)) ≤ i = omega (arith, length-part area start len (p .room)) in
-      sym (p .rest ∙ rw (drop-of-length-le (take len (drop start area)) l))
 
 -- ---- a text, test by test
 

@@ -1,7 +1,7 @@
 -- The loop that takes a list apart.
 -- Assumes nothing.
 use mathlib.Core.Path.{_≡_, refl, sym, ap, _∙_}
-use mathlib.Core.Bool.{true, false}
+use mathlib.Core.Bool.{Bool, true, false}
 use mathlib.Core.List.{List, _∷_, map, map-append}
 use Prim.Native.Nat.{ℕ, _+_, _<_, _≤_, min}
 use native.Mathlib.Numerals.{add-one}
@@ -11,7 +11,7 @@ use lib.ListN.{length, getD, take, drop, set, length-map, length-take, drop-of-l
 use lib.Seq.{take-all, take-suc, take-suc-set, drop-cons, getD-take}
 use borrow.Author.Tests.{lt-ltb, le-ltb}
 use Rattle.list_elements.specs.Elements.{valueOf, zeroValue, values}
-use Rattle.list_elements.specs.Limits.{mostElements, withinLimits, firstBad, checkValues, listCheck}
+use Rattle.list_elements.specs.Limits.{mostElements, firstFailing, checkValues, checkList}
 use Rattle.list_elements.specs.Apart.{kindNumber, amount, detail, Apart}
 use Rattle.list_elements.specs.declared.Value.{Value}
 use Rattle.list_elements.specs.declared.List as carried
@@ -45,22 +45,22 @@ filled f vs xs i e h g q =
 -- ---- the three slices, and the check
 
 -- of the values vs the first i are within their limits and stand in the slices
-pub record Taken (area : List ℕ) (vs : List Value) (ks : List ℕ) (ms : List ℤ) (ds : List ℕ) (i : ℕ) : Type 0 where
+pub record Taken (test : Value → Bool) (vs : List Value) (ks : List ℕ) (ms : List ℤ) (ds : List ℕ) (i : ℕ) : Type 0 where
   pub bound : i ≤ length vs
-  pub left : firstBad area 0 vs ≡ firstBad area i (drop i vs)
+  pub left : firstFailing test 0 vs ≡ firstFailing test i (drop i vs)
   pub kinds : take i ks ≡ map kindNumber (take i vs)
   pub amounts : take i ms ≡ map amount (take i vs)
   pub details : take i ds ≡ map detail (take i vs)
 
-pub taken-none : {area : List ℕ} {vs : List Value} {ks : List ℕ} {ms : List ℤ} {ds : List ℕ} → Taken area vs ks ms ds 0
+pub taken-none : {test : Value → Bool} {vs : List Value} {ks : List ℕ} {ms : List ℤ} {ds : List ℕ} → Taken test vs ks ms ds 0
 taken-none = record { bound = omega arith; left = refl; kinds = refl; amounts = refl; details = refl }
 
-module _ {area : List ℕ} {vs : List Value} {ks : List ℕ} {ms : List ℤ} {ds : List ℕ} {i : ℕ} (t : Taken area vs ks ms ds i) where
-  next : i < length vs → firstBad area i (drop i vs) ≡ firstBad area i (getD vs i zeroValue ∷ drop (i + 1) vs)
+module _ {test : Value → Bool} {vs : List Value} {ks : List ℕ} {ms : List ℤ} {ds : List ℕ} {i : ℕ} (t : Taken test vs ks ms ds i) where
+  next : i < length vs → firstFailing test i (drop i vs) ≡ firstFailing test i (getD vs i zeroValue ∷ drop (i + 1) vs)
   next h = rw (add-one i, ← drop-cons vs i zeroValue h)
 
-  pub taken-more : {k d : ℕ} {m : ℤ} {v : Value} → i < length vs → i < length ks → i < length ms → i < length ds → v ≡ getD vs i zeroValue → withinLimits area v ≡ true → k ≡ kindNumber v → m ≡ amount v → d ≡ detail v → Taken area vs (set ks i k) (set ms i m) (set ds i d) (i + 1)
-  unfolding firstBad
+  pub taken-more : {k d : ℕ} {m : ℤ} {v : Value} → i < length vs → i < length ks → i < length ms → i < length ds → v ≡ getD vs i zeroValue → test v ≡ true → k ≡ kindNumber v → m ≡ amount v → d ≡ detail v → Taken test vs (set ks i k) (set ms i m) (set ds i d) (i + 1)
+  unfolding firstFailing
   taken-more h hk hm hd q w ek em ed =
       record {
         bound = omega arith;
@@ -70,12 +70,12 @@ module _ {area : List ℕ} {vs : List Value} {ks : List ℕ} {ms : List ℤ} {ds
         details = filled detail vs ds i (t .details) hd h (ed ∙ ap detail q);
       }
 
-  pub taken-bad : {v : Value} → i < length vs → v ≡ getD vs i zeroValue → withinLimits area v ≡ false → firstBad area 0 vs ≡ Bad i
-  unfolding firstBad
+  pub taken-bad : {v : Value} → i < length vs → v ≡ getD vs i zeroValue → test v ≡ false → firstFailing test 0 vs ≡ Bad i
+  unfolding firstFailing
   taken-bad h q w = t .left ∙ next h ∙ rw (rw q at w)
 
-  pub taken-good : length vs ≤ i → firstBad area 0 vs ≡ Good
-  unfolding firstBad
+  pub taken-good : length vs ≤ i → firstFailing test 0 vs ≡ Good
+  unfolding firstFailing
   taken-good h = t .left ∙ rw (drop-of-length-le vs h)
 
   pub taken-all : {n : ℕ} → n ≡ i → length vs ≤ i → Apart vs (take n ks) (take n ms) (take n ds)
@@ -85,18 +85,18 @@ module _ {area : List ℕ} {vs : List Value} {ks : List ℕ} {ms : List ℤ} {ds
 
 -- ---- row 6
 
-module _ (area : List ℕ) (l : carried.List) (full : length (l .elements) ≡ 64) where
+module _ (test : Value → Bool) (l : carried.List) (full : length (l .elements) ≡ 64) where
   within : take mostElements (values l) ≡ values l
   within = take-all mostElements (values l) (omega (arith, values-length l full))
 
-  pub check-bad : {i : ℕ} → firstBad area 0 (values l) ≡ Bad i → Bad i ≡ listCheck area l
+  pub check-bad : {i : ℕ} → firstFailing test 0 (values l) ≡ Bad i → Bad i ≡ checkList test l
   unfolding checkValues
   check-bad e = rw (within, e)
 
-  pub check-many : firstBad area 0 (values l) ≡ Good → mostElements < l .count → Bad mostElements ≡ listCheck area l
+  pub check-many : firstFailing test 0 (values l) ≡ Good → mostElements < l .count → Bad mostElements ≡ checkList test l
   unfolding checkValues
   check-many e h = rw (within, e, lt-ltb mostElements (l .count) h)
 
-  pub check-fine : firstBad area 0 (values l) ≡ Good → l .count ≤ mostElements → Good ≡ listCheck area l
+  pub check-fine : firstFailing test 0 (values l) ≡ Good → l .count ≤ mostElements → Good ≡ checkList test l
   unfolding checkValues
   check-fine e h = rw (within, e, le-ltb mostElements (l .count) h)

@@ -23,6 +23,13 @@ kindOf (value.Decimal d) = decimal
 kindOf (value.Logical b) = logical
 kindOf (value.Text t) = text (t .len)
 
+-- the length of a text
+abbrev pub textLength : Kind → ℕ
+textLength integer = 0
+textLength decimal = 0
+textLength logical = 0
+textLength (text m) = m
+
 -- 'integer 0'
 abbrev pub zeroValue : Value
 zeroValue = value.Integer (pos 0)

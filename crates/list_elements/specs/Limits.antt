@@ -6,9 +6,9 @@ use Prim.Native.Nat.{ℕ, _+_}
 use lib.Dec.{leb, ltb}
 use lib.IntN.{natAbs}
 use lib.ListN.{length, take}
-use Rattle.buffer.specs.Characters.{isPrintable}
+use Rattle.buffer.specs.Characters.{allPrintable}
 use Rattle.number.specs.Limits.{largest, mostPlaces}
-use Rattle.list_elements.specs.Elements.{values, textBytes}
+use Rattle.list_elements.specs.Elements.{Kind, integer, decimal, logical, text, kindOf, textLength, values, textBytes}
 use Rattle.list_elements.specs.declared.Value.{Value}
 use Rattle.list_elements.specs.declared.Value.the-variants.{Integer, Decimal, Logical, Text}
 use Rattle.list_elements.specs.declared.List as carried
@@ -23,11 +23,6 @@ mostElements = 64
 abbrev pub longestText : ℕ
 longestText = 64
 
--- 'bytes 32 to 126'
-unfoldable pub allPrintable : List ℕ → Bool
-allPrintable [] = true
-allPrintable (x ∷ xs) = isPrintable x && allPrintable xs
-
 -- an element is within 'its limits' and 'the text area'
 unfoldable pub withinLimits : List ℕ → Value → Bool
 withinLimits area (Integer n) = leb (natAbs n) largest
@@ -36,19 +31,25 @@ withinLimits area (Logical b) = true
 withinLimits area (Text t) =
     (leb 1 (t .len) && leb (t .len) longestText) && (leb (t .start + t .len) (length area) && allPrintable (textBytes area t))
 
--- the first element outside them, the first of these elements having the place i
-unfoldable pub firstBad : List ℕ → ℕ → List Value → ListCheck
-firstBad area i [] = Good
-firstBad area i (v ∷ vs) = cond (withinLimits area v) (firstBad area (i + 1) vs) (Bad i)
+-- ---- row 6, for a test of the values
+
+-- the first value that fails the test, the first of these values having the place i
+unfoldable pub firstFailing : (Value → Bool) → ℕ → List Value → ListCheck
+firstFailing test i [] = Good
+firstFailing test i (v ∷ vs) = cond (test v) (firstFailing test (i + 1) vs) (Bad i)
 
 -- 'if none': a count over the limit is refused, with the limit as its place
 abbrev pub overLimit : ℕ → ℕ → ListCheck → ListCheck
 overLimit most count Good = cond (ltb most count) (Bad most) Good
 overLimit most count (Bad p) = Bad p
 
--- row 6, for a list of at most so many elements: 'first such element of the first 64; if none, 64'
-unfoldable pub checkValues : ℕ → List ℕ → List Value → ℕ → ListCheck
-checkValues most area vs count = overLimit most count (firstBad area 0 (take most vs))
+-- of a list of at most so many elements: 'first such element of the first 64; if none, 64'
+unfoldable pub checkValues : (Value → Bool) → ℕ → List Value → ℕ → ListCheck
+checkValues test most vs count = overLimit most count (firstFailing test 0 (take most vs))
+
+-- of the carried list
+abbrev pub checkList : (Value → Bool) → carried.List → ListCheck
+checkList test l = checkValues test mostElements (values l) (l .count)
 
 -- the table's columns 'No.' and 'Place'; 0 where the list is good
 abbrev pub checkNumber : ListCheck → ℕ
@@ -59,6 +60,31 @@ abbrev pub checkPlace : ListCheck → ℕ
 checkPlace Good = 0
 checkPlace (Bad p) = p
 
--- of the carried list
+-- ---- row 6 in writing: 'element outside its limits or the text area'
+
 abbrev pub listCheck : List ℕ → carried.List → ListCheck
-listCheck area l = checkValues mostElements area (values l) (l .count)
+listCheck area l = checkList (withinLimits area) l
+
+-- the values of a good list are all within their limits
+abbrev pub firstBad : List ℕ → ℕ → List Value → ListCheck
+firstBad area i vs = firstFailing (withinLimits area) i vs
+
+-- ---- row 6 in reading: 'the caller lists the kinds wanted, with a length for each text'. Other data of an element is ignored.
+
+abbrev pub wantedWithin : Kind → Bool
+wantedWithin integer = true
+wantedWithin decimal = true
+wantedWithin logical = true
+wantedWithin (text m) = leb 1 m && leb m longestText
+
+abbrev pub wanted : Value → Bool
+wanted v = wantedWithin (kindOf v)
+
+abbrev pub wantedCheck : carried.List → ListCheck
+wantedCheck l = checkList wanted l
+
+-- ---- row 13: the length of the wanted texts together
+
+unfoldable pub textsLength : List Kind → ℕ
+textsLength [] = 0
+textsLength (k ∷ ks) = textLength k + textsLength ks

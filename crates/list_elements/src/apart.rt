@@ -18,7 +18,7 @@ ghost use Rattle.list_elements.specs.Limits.{mostElements, longestText, 
 ghost use Rattle.list_elements.specs.Apart.{kindNumber, amount, detail, Apart};
 
 // A text's length is within its limits, so that the number is small.
-fn kind_number(v: Value) -> u64
+pub fn kind_number(v: Value) -> u64
     requires { ⌜ kindNumber v ≤ longestText * 4 + 3 ⌝ }
     ensures { λ r. ⌜ r ≡ kindNumber v ⌝ }
 {
@@ -59,7 +59,7 @@ fn detail_of(v: Value) -> usize
 }
 
 // The elements of a list that are looked at.
-fn looked_at(count: usize) -> usize
+pub fn looked_at(count: usize) -> usize
     ensures { λ r. ⌜ r ≡ min count mostElements ⌝ }
 {
     if List::MOST < count {

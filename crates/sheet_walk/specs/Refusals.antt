@@ -3,7 +3,7 @@
 use Prim.Native.Nat.{ℕ}
 use Rattle.format_grammar.specs.Check as format
 use Rattle.sheet_walk.specs.declared.Refusal.{Refusal}
-use Rattle.sheet_walk.specs.declared.Refusal.the-variants.{RecordWidth, Format, Element, NoRecord, NextRecord, NoField, Kind, Column, TooLarge}
+use Rattle.sheet_walk.specs.declared.Refusal.the-variants.{RecordWidth, Format, Element, NoRecord, NextRecord, NoField, Kind, Column, TooLarge, FieldText, TextArea}
 
 abbrev pub refusalNumber : Refusal → ℕ
 refusalNumber RecordWidth = 1
@@ -15,6 +15,8 @@ refusalNumber (NoField p) = 10
 refusalNumber (Kind p) = 7
 refusalNumber (Column p) = 8
 refusalNumber (TooLarge p) = 11
+refusalNumber (FieldText p) = 12
+refusalNumber TextArea = 13
 
 abbrev pub refusalPlace : Refusal → ℕ
 refusalPlace RecordWidth = 0
@@ -26,3 +28,5 @@ refusalPlace (NoField p) = p
 refusalPlace (Kind p) = p
 refusalPlace (Column p) = p
 refusalPlace (TooLarge p) = p
+refusalPlace (FieldText p) = p
+refusalPlace TextArea = 0

@@ -1,17 +1,21 @@
 -- Document 01, 'The walk': what each item does.
 -- Assumes nothing.
-use mathlib.Core.Bool.{Bool, true, false, _||_, cond}
+use mathlib.Core.Bool.{Bool, true, false, _&&_, _||_, cond}
 use mathlib.Core.List.{List, [], _∷_}
 use Prim.Native.Nat.{ℕ, _+_}
 use lib.Dec.{leb, ltb}
 use lib.ListN.{length, drop}
 use Rattle.format_grammar.specs.Items.{Field}
 use Rattle.format_grammar.specs.Met.{Met}
-use Rattle.list_elements.specs.Elements.{Kind, integer, decimal, logical, text}
+use Rattle.list_elements.specs.Elements.{Kind, integer, decimal, logical, text, textLength}
 use Rattle.sheet_walk.specs.declared.Refusal.{Refusal}
 use Rattle.sheet_walk.specs.declared.Refusal.the-variants as refusal
 use Rattle.sheet_walk.specs.declared.Records.{Records}
 use Rattle.sheet_walk.specs.declared.State.{State}
+
+-- 'The record width R is 1 to 255.'
+abbrev pub widthRight : ℕ → Bool
+widthRight R = leb 1 R && leb R 255
 
 -- ---- where the walk stands, and what is covered
 
@@ -74,13 +78,6 @@ suits (Field.F w d) k = isDecimal k
 suits (Field.L w) k = isLogical k
 suits Field.A k = isText k
 suits (Field.Aw w) k = isText k
-
--- the length of a text
-abbrev pub textLength : Kind → ℕ
-textLength integer = 0
-textLength decimal = 0
-textLength logical = 0
-textLength (text m) = m
 
 -- 'covers w columns (A alone: the text's length)'
 abbrev pub fieldWidth : Field ℕ → Kind → ℕ

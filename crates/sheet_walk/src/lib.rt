@@ -17,6 +17,8 @@ pub enum Refusal {
     Kind { place: usize },
     Column { place: usize },
     TooLarge { place: usize },
+    FieldText { place: usize },
+    TextArea,
 }
 
 // The records that a buffer holds: their width and their number.
@@ -62,4 +64,10 @@ pub enum Turn {
     Ends {
         records: usize,
     },
+}
+
+// How a walk ends once the values of its fields were checked as well.
+pub enum Ending {
+    Accepted { records: usize },
+    Refused(Refusal),
 }

@@ -17,6 +17,8 @@ pub fn number_of(refusal: Refusal) -> u64
         Refusal::Kind { place: _ } => 7,
         Refusal::Column { place: _ } => 8,
         Refusal::TooLarge { place: _ } => 11,
+        Refusal::FieldText { place: _ } => 12,
+        Refusal::TextArea => 13,
     }
 }
 
@@ -34,5 +36,7 @@ pub fn place_of(refusal: Refusal) -> usize
         Refusal::Kind { place } => place,
         Refusal::Column { place } => place,
         Refusal::TooLarge { place } => place,
+        Refusal::FieldText { place } => place,
+        Refusal::TextArea => 0,
     }
 }

@@ -22,7 +22,7 @@ use Rattle.list_elements.specs.declared.Value.{Value}
 use Rattle.list_elements.specs.declared.Value.the-variants as value
 use Rattle.list_elements.specs.declared.ListCheck.{ListCheck}
 use Rattle.list_elements.specs.declared.ListCheck.the-variants.{Good, Bad}
-use Rattle.sheet_walk.specs.Steps.{What, element, literal, Placement}
+use Rattle.sheet_walk.specs.Steps.{widthRight, What, element, literal, Placement}
 use Rattle.sheet_walk.specs.Walk.{Trace}
 use Rattle.sheet_walk.specs.Columns.{In, here, there}
 use Rattle.sheet_walk.specs.Promises.{StopsWith}
@@ -30,7 +30,7 @@ use Rattle.sheet_walk.specs.declared.Refusal.{Refusal}
 use Rattle.sheet_walk.specs.declared.Refusal.the-variants.{RecordWidth, Format, NoRecord, TooLarge}
 use Rattle.write_passes.specs.Placed.{valueAt, fieldTooLarge, Judged, refused, judgedAt, judged}
 use Rattle.write_passes.proofs.PlacedLaws.{judged-accepts}
-use Rattle.sheet_write.specs.Writing.{Writing, accepts, refuses, concluded, walked, checkList, checkFormat, widthRight, writingOf, answerOf, answerNumber, answerPlace}
+use Rattle.sheet_write.specs.Writing.{Writing, accepts, refuses, concluded, walked, checkList, checkFormat, writingOf, answerOf, answerNumber, answerPlace}
 use Rattle.sheet_write.specs.Promises.{Call, valuesOf, becomes, answerTo, WidthRight, Walks, walkOf, RoundsWithin, TooLargeAt, AcceptableCall, AnsweredBy}
 use Rattle.sheet_write.proofs.Rounds.{rounds-small}
 use Rattle.sheet_write.proofs.Calls.{width-passed}

@@ -18,13 +18,14 @@ use Rattle.format_grammar.proofs.Promises as grammar
 use Rattle.list_elements.specs.Limits.{listCheck}
 use Rattle.list_elements.specs.declared.ListCheck.{ListCheck}
 use Rattle.list_elements.specs.declared.ListCheck.the-variants.{Good, Bad}
+use Rattle.sheet_walk.specs.Steps.{widthRight}
 use Rattle.sheet_walk.specs.Walk.{Trace}
 use Rattle.sheet_walk.specs.Laid.{written}
 use Rattle.sheet_walk.specs.Refusals.{refusalNumber, refusalPlace}
 use Rattle.sheet_walk.specs.declared.Refusal.{Refusal}
 use Rattle.sheet_walk.specs.declared.Refusal.the-variants.{NoRecord, RecordWidth}
 use Rattle.write_passes.specs.Placed.{characters, Judged}
-use Rattle.sheet_write.specs.Writing.{Writing, accepts, refuses, concluded, walked, checkBuffer, checkList, checkFormat, widthRight, writingOf, bufferOf}
+use Rattle.sheet_write.specs.Writing.{Writing, accepts, refuses, concluded, walked, checkBuffer, checkList, checkFormat, writingOf, bufferOf}
 use Rattle.sheet_write.specs.Promises.{Call, valuesOf, becomes, bufferAfter, WidthRight, Walks, walkOf, AcceptableCall, AnsweredBy}
 use Rattle.sheet_write.proofs.Rounds.{Told, told}
 

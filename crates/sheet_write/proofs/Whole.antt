@@ -10,7 +10,7 @@ use lib.ListN.{length, take}
 use lib.Seq.{length-take-le}
 use Rattle.format_grammar.specs.Check.{outcome}
 use Rattle.list_elements.specs.Elements.{values}
-use Rattle.list_elements.specs.Limits.{listCheck}
+use Rattle.list_elements.specs.Limits.{withinLimits, listCheck}
 use Rattle.list_elements.specs.Apart.{Apart}
 use Rattle.list_elements.proofs.ApartLaws.{check-good}
 use Rattle.list_elements.specs.declared.Value.{Value}
@@ -47,7 +47,7 @@ module _ (area : List ℕ) (l : carried.List) (check : ListCheck) (is : check �
   usable-few = go check refl
     where
       go : (k : ListCheck) → check ≡ k → usableCount k (l .count) ≤ 64
-      go Good e = check-good area l (sym is ∙ e) .1
+      go Good e = check-good (withinLimits area) l (sym is ∙ e) .1
       go (Bad p) e = omega arith
 
   module _ (kinds : List ℕ) (amounts : List ℤ) (details : List ℕ) (long : length kinds ≡ 64)
@@ -57,7 +57,7 @@ module _ (area : List ℕ) (l : carried.List) (check : ListCheck) (is : check �
         record {
           if-good = λ g.
               let c : n ≡ l .count = e ∙ ap (λ k. usableCount k (l .count)) g in
-              let f = check-good area l (sym is ∙ g) in
+              let f = check-good (withinLimits area) l (sym is ∙ g) in
               let m : length (take (l .count) kinds) ≡ l .count = length-take-le (l .count) kinds (omega (arith, f .1)) in
               rw c (record { apart = apart g; good = f .0; few = omega (arith, f .1, m) });
         }

@@ -33,8 +33,8 @@ use Rattle.sheet_walk.proofs.Covering.{covers-reached}
 use Rattle.sheet_walk.proofs.Passes.{walkable}
 use Rattle.write_passes.specs.Placed.{characters, starredIn, Judged, accepted, refused, judged}
 use Rattle.write_passes.specs.Passes.{Ready, endingOf}
-use Rattle.write_passes.specs.declared.Ending.{Ending}
-use Rattle.write_passes.specs.declared.Ending.the-variants as ending
+use Rattle.sheet_walk.specs.declared.Ending.{Ending}
+use Rattle.sheet_walk.specs.declared.Ending.the-variants as ending
 use Rattle.write_passes.proofs.PlacedLaws.{judged-ends}
 use Rattle.sheet_write.specs.Writing.{walked, checkBuffer, checkFormat}
 use Rattle.sheet_write.specs.Parts.{Roomy, Listed, Wrote}

@@ -1,10 +1,10 @@
 -- Document 01, 'The walk' and 'Checks by place': writing. The outcome and the buffer afterwards, for every record width R,
 -- format, list, text area and buffer.
 -- Assumes nothing.
-use mathlib.Core.Bool.{Bool, _&&_, cond}
+use mathlib.Core.Bool.{cond}
 use mathlib.Core.List.{List, map}
 use Prim.Native.Nat.{ℕ, _/_}
-use lib.Dec.{leb, eqb}
+use lib.Dec.{eqb}
 use lib.ListN.{length}
 use Rattle.format_grammar.specs.Items.{Items}
 use Rattle.format_grammar.specs.Check as formats
@@ -15,6 +15,7 @@ use Rattle.list_elements.specs.declared.List as carried
 use Rattle.list_elements.specs.declared.ListCheck.{ListCheck}
 use Rattle.list_elements.specs.declared.ListCheck.the-variants.{Good, Bad}
 use Rattle.sheet_walk.specs.Refusals.{refusalNumber, refusalPlace}
+use Rattle.sheet_walk.specs.Steps.{widthRight}
 use Rattle.sheet_walk.specs.Walk.{Trace, sheet, walk}
 use Rattle.sheet_walk.specs.Laid.{written}
 use Rattle.sheet_walk.specs.declared.Refusal.{Refusal}
@@ -53,10 +54,6 @@ checkList R xs (Bad p) vs B = refuses (Element p)
 abbrev pub checkFormat : ℕ → formats.Outcome → ListCheck → List Value → ℕ → Writing
 checkFormat R (formats.accepted xs) check vs B = checkList R xs check vs B
 checkFormat R (formats.refused why) check vs B = refuses (Format why)
-
--- 'The record width R is 1 to 255.'
-abbrev pub widthRight : ℕ → Bool
-widthRight R = leb 1 R && leb R 255
 
 -- row 1: the whole of writing, for a list whose check is given and that has the values vs
 unfoldable pub writingOf : ℕ → List ℕ → ListCheck → List Value → ℕ → Writing

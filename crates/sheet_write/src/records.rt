@@ -1,7 +1,7 @@
 // The records written under a run of words: checked first, and laid only where nothing is refused.
 use crate::Written;
+use sheet_walk::Ending;
 use sheet_walk::Records;
-use write_passes::Ending;
 use write_passes::checking::check_pass;
 use write_passes::laying::lay_pass;
 ghost use lib.ListN.{length};

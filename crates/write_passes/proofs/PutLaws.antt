@@ -53,7 +53,7 @@ module _ {t area : List ℕ} {vs : List Value} {ks : List ℕ} {ms : List ℤ} {
     suits-value = ap (suits f) (sym (List·getD-map elements.kindOf vs i elements.zeroValue)) ∙ suited .suited
 
     pub good-value : withinLimits area v ≡ true
-    good-value = good-at area vs (p .good) i known
+    good-value = good-at (withinLimits area) vs (p .good) i known
 
     pub in-kinds : i < length ks
     in-kinds = omega (arith, known, kinds-length (p .apart))

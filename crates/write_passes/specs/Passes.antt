@@ -24,8 +24,8 @@ use Rattle.sheet_walk.specs.Promises.{Suited}
 use Rattle.sheet_walk.specs.Turns.{Loaded, sheetOf}
 use Rattle.sheet_walk.specs.declared.Records.{Records}
 use Rattle.write_passes.specs.Placed.{fieldTooLarge, valueAt, Judged, accepted, refused, judged}
-use Rattle.write_passes.specs.declared.Ending.{Ending}
-use Rattle.write_passes.specs.declared.Ending.the-variants as ending
+use Rattle.sheet_walk.specs.declared.Ending.{Ending}
+use Rattle.sheet_walk.specs.declared.Ending.the-variants as ending
 
 -- ---- one placement
 

@@ -1,6 +1,6 @@
 // The checking pass: how the walk ends. Nothing is stored.
-use crate::Ending;
 use crate::fields::too_large;
+use sheet_walk::Ending;
 use sheet_walk::Records;
 use sheet_walk::Refusal;
 use sheet_walk::Turn;

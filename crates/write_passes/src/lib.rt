@@ -2,11 +2,3 @@
 pub mod checking;
 pub mod fields;
 pub mod laying;
-
-use sheet_walk::Refusal;
-
-// How the walk ends in writing.
-pub enum Ending {
-    Accepted { records: usize },
-    Refused(Refusal),
-}

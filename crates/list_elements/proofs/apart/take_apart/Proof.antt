@@ -8,6 +8,7 @@ use lib.ListN.{length, length-set}
 use borrow.Author.Needs.{needs}
 use borrow.Author.Tests.{not-true, not-false}
 use Rattle.list_elements.specs.Elements.{values}
+use Rattle.list_elements.specs.Limits.{withinLimits}
 use Rattle.list_elements.proofs.LimitLaws.{from-bits}
 use Rattle.list_elements.proofs.ApartLaws.{kind-small, bad-not-good}
 use Rattle.list_elements.proofs.Taking.{any-map, values-length, element-is, Taken, taken-none, taken-more, taken-bad, taken-good, taken-all, check-bad, check-many, check-fine}
@@ -15,7 +16,7 @@ use Rattle.list_elements.proofs.apart.take_apart.Statement.{statement}
 use Rattle.list_elements.proofs.apart.take_apart.Tie as tie
 
 abbrev Inv-loop : tie.InvT-loop
-Inv-loop area kinds₀ amounts₀ details₀ list count n i₀ kinds amounts details i = (Taken area (values list) kinds amounts details i) × (length kinds ≡ length kinds₀) × (length amounts ≡ length amounts₀) × (length details ≡ length details₀)
+Inv-loop area kinds₀ amounts₀ details₀ list count n i₀ kinds amounts details i = (Taken (withinLimits area) (values list) kinds amounts details i) × (length kinds ≡ length kinds₀) × (length amounts ≡ length amounts₀) × (length details ≡ length details₀)
 
 abbrev μ-loop : tie.MeasureT-loop
 μ-loop area kinds₀ amounts₀ details₀ list count n i₀ kinds amounts details i = n - i
@@ -56,7 +57,7 @@ returns c =
     let l = w .before .before .before .loop in
     let s = w .before .before .before .before .before .before .before .before in
     let k = element-is (s .args .t1) (full s) (w .before .before .before .before .looked-at .ensures) (w .before .before .loop-test .taken) in (
-      check-bad (s .args .area .now) (s .args .t1) (full s) (taken-bad (l .inv .0) (k .0) (k .1) (sym (w .within-limits .ensures) ∙ not-true _ (c .if1 .taken))),
+      check-bad (withinLimits (s .args .area .now)) (s .args .t1) (full s) (taken-bad (l .inv .0) (k .0) (k .1) (sym (w .within-limits .ensures) ∙ not-true _ (c .if1 .taken))),
       bad-not-good,
     )
 
@@ -123,7 +124,7 @@ returns-2 c =
     let l = c .before .before .loop in
     let s = c .before .before .before .before .before .before .before in
     let h : length (values (s .args .t1)) ≤ l .i = omega (arith, values-length (s .args .t1) (full s), c .before .before .before .looked-at .ensures) in
-    (check-many (s .args .area .now) (s .args .t1) (full s) (taken-good (l .inv .0) h) (c .if2 .taken), bad-not-good)
+    (check-many (withinLimits (s .args .area .now)) (s .args .t1) (full s) (taken-good (l .inv .0) h) (c .if2 .taken), bad-not-good)
 
 same-length-7 : tie.Need-same-length-7 Inv-loop μ-loop
 same-length-7 c = search needs
@@ -140,7 +141,7 @@ returns-3 c =
     let s = c .before .before .before .before .before .before .before in
     let n : length (values (s .args .t1)) ≡ s .args .t1 .count = omega (arith, values-length (s .args .t1) (full s)) in
     let h : s .args .t1 .count ≡ l .i = omega (arith, c .before .before .before .looked-at .ensures) in
-    (check-fine (s .args .area .now) (s .args .t1) (full s) (taken-good (l .inv .0) (omega arith)) (c .if2 .left), λ e. taken-all (l .inv .0) h (omega arith))
+    (check-fine (withinLimits (s .args .area .now)) (s .args .t1) (full s) (taken-good (l .inv .0) (omega arith)) (c .if2 .left), λ e. taken-all (l .inv .0) h (omega arith))
 
 pub take-apart-spec : {M : Type 1} → statement M
 take-apart-spec =

@@ -1,0 +1,1 @@
+// The pass of reading over the walk, and the list that it gives.
