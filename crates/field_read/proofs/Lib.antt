@@ -2,4 +2,5 @@ pub mod Blanks
 pub mod Running
 pub mod Numbers
 pub mod Cases
+pub mod LetterReads
 pub mod Promises

@@ -20,12 +20,13 @@ use Rattle.field_written.specs.declared.Sign.the-variants.{None, Plus, Minus}
 use Rattle.field_written.specs.Written.{field, starred, decimalField, putRefusal, putStarred}
 use Rattle.field_written.proofs.Promises.{unstarred-is-numeral, Case, large, narrow-case, wide-case, case-of, clash, small-units}
 use Rattle.field_read.specs.Read.{unblanked, beforePoint, fromPoint, numberRead, placesRead, readDigits, readField, readRefusal, readUnits, readPlaces, Gives, shownUnits, shownPlaces}
-use Rattle.field_read.specs.Promises.{NumeralReads, IntegerReadsBack, DecimalReadsBack, StarsRefused}
+use Rattle.field_read.specs.Promises.{NumeralReads, IntegerReadsBack, DecimalReadsBack, StarsRefused, LogicalReadIs, LogicalReadsBack, TextReadLength, TextReadsBack}
 use Rattle.field_read.specs.declared.FieldRead.{FieldRead}
 use Rattle.field_read.specs.declared.FieldRead.the-variants.{Number, Refused}
 use Rattle.field_read.proofs.Blanks.{unblanked-append, unblanked-blanks, unblanked-digits}
 use Rattle.field_read.proofs.Numbers.{number-good, number-bad, before-digits, before-other, from-digits, at-point}
 use Rattle.field_read.proofs.Cases.{read-some}
+use Rattle.field_read.proofs.LetterReads
 
 -- ---- without its blanks a numeral is its sign, digits and point
 
@@ -139,3 +140,17 @@ stars-read (F d) w =
 pub stars-refused : StarsRefused
 stars-refused f zero h = absurd (not-suc-le-zero h)
 stars-refused f (suc w) h = ap readRefusal (stars-read f w)
+
+-- ---- logicals and texts
+
+pub logical-read-is : LogicalReadIs
+logical-read-is = LetterReads.logical-read-is
+
+pub logical-reads-back : LogicalReadsBack
+logical-reads-back = LetterReads.logical-reads-back
+
+pub text-read-length : TextReadLength
+text-read-length = LetterReads.text-read-length
+
+pub text-reads-back : TextReadsBack
+text-reads-back = LetterReads.text-reads-back

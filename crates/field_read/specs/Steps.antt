@@ -11,6 +11,7 @@ use Rattle.number.specs.Limits.{largest}
 use Rattle.number.specs.Digits.{isDigit, Digits, value}
 use Rattle.field_written.specs.declared.Sign.{Sign}
 use Rattle.field_read.specs.Read.{unblanked, signOf, afterSign}
+use Rattle.field_read.specs.LogicalRead.{afterBlanks}
 use Rattle.field_read.specs.declared.Front.{Front}
 use Rattle.field_read.specs.declared.Front.the-variants.{Nothing, Found}
 use Rattle.field_read.specs.declared.Run.{Run}
@@ -20,6 +21,7 @@ use Rattle.field_read.specs.declared.Run.the-variants as run
 pub record Skipped (s : List ℕ) (to : ℕ) : Type 0 where
   pub past : to ≤ length s
   pub same : unblanked s ≡ unblanked (drop to s)
+  pub only : afterBlanks s ≡ drop to s
   pub stop : to < length s → getD s to 0 ≡ blank → ⊥
 
 -- something is left of s without its blanks: the sign, and what follows it stands from `from` on, blanks aside

@@ -4,6 +4,8 @@ pub mod decimal;
 mod digits;
 pub mod integer;
 mod leading;
+pub mod logical;
+pub mod text;
 
 use field_written::Sign;
 

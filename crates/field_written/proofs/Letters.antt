@@ -31,11 +31,11 @@ length-logical w b h = length-justified w (letter b ∷ []) h
 -- ---- a text
 
 module _ (w : ℕ) (text : List ℕ) where
-  text-fits : length text ≤ w → textField w text ≡ justified w text
+  pub text-fits : length text ≤ w → textField w text ≡ justified w text
   unfolding textField
   text-fits h = rw (le-leb (length text) w h)
 
-  text-cut : w < length text → textField w text ≡ take w text
+  pub text-cut : w < length text → textField w text ≡ take w text
   unfolding textField
   text-cut h = rw (lt-leb (length text) w h)
 

@@ -16,7 +16,7 @@ use Rattle.buffer.specs.Characters.{allPrintable}
 use Rattle.buffer.proofs.Splicing.{length-part}
 use Rattle.number.specs.Limits.{largest, mostPlaces}
 use Rattle.list_elements.specs.Elements.{kindOf, valueOf, zeroValue, values, textBytes}
-use Rattle.list_elements.specs.Limits.{mostElements, longestText, withinLimits, firstFailing, overLimit, checkValues, checkList}
+use Rattle.list_elements.specs.Limits.{mostElements, longestText, withinLimits, firstFailing, overLimit, checkValues, checkList, wanted}
 use Rattle.list_elements.specs.Apart.{kindNumber, kindFrom, amount, detail, Apart}
 use Rattle.list_elements.specs.declared.Decimal.{Decimal}
 use Rattle.list_elements.specs.declared.Text.{Text}
@@ -109,6 +109,16 @@ kind-small area (value.Integer n) e = omega arith
 kind-small area (value.Decimal d) e = omega arith
 kind-small area (value.Logical b) e = omega arith
 kind-small area (value.Text t) e = omega (arith, within-text area t e)
+
+-- ---- a value that may be wanted
+
+pub wanted-small : (v : Value) → wanted v ≡ true → kindNumber v ≤ longestText * 4 + 3
+wanted-small (value.Integer n) e = omega arith
+wanted-small (value.Decimal d) e = omega arith
+wanted-small (value.Logical b) e = omega arith
+wanted-small (value.Text t) e =
+    let h = leb-true (t .len) longestText (and-true (leb 1 (t .len)) (leb (t .len) longestText) e .1) in
+    omega arith
 
 -- ---- a list within its limits
 

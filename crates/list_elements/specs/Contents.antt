@@ -6,7 +6,8 @@ use Prim.Native.Nat.{ℕ, _+_, _-_}
 use lib.IntN.{ℤ}
 use lib.ListN.{length, replicate}
 use Rattle.buffer.specs.Splice.{splice}
-use Rattle.list_elements.specs.Elements.{zeroValue, textBytes}
+use Rattle.list_elements.specs.Elements.{Kind, zeroValue, textBytes}
+use Rattle.list_elements.specs.Elements as kind
 use Rattle.list_elements.specs.Limits.{mostElements}
 use Rattle.list_elements.specs.declared.Value.{Value}
 use Rattle.list_elements.specs.declared.Value.the-variants as value
@@ -26,6 +27,13 @@ contentOf area (value.Integer n) = integer n
 contentOf area (value.Decimal d) = decimal (d .units) (d .places)
 contentOf area (value.Logical b) = logical b
 contentOf area (value.Text t) = text (textBytes area t)
+
+-- its kind, a text's length with it
+abbrev pub contentKind : Content → Kind
+contentKind (integer n) = kind.integer
+contentKind (decimal u s) = kind.decimal
+contentKind (logical b) = kind.logical
+contentKind (text bytes) = kind.text (length bytes)
 
 -- ---- 'Texts read are laid in the text area from its first byte, one after another in list order, and the bytes after them keep
 -- their contents.'

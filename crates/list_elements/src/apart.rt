@@ -9,13 +9,13 @@ use crate::ListCheck;
 use crate::Value;
 use crate::limits::within_limits;
 ghost use mathlib.Core.Path.{_≡_};
-ghost use mathlib.Core.Bool.{cond};
+ghost use mathlib.Core.Bool.{Bool, cond};
 ghost use Prim.Native.Nat.{_+_, _*_, _≤_, min};
 ghost use lib.IntN.{pos};
 ghost use lib.ListN.{length, take};
 ghost use Rattle.list_elements.specs.Elements.{values};
 ghost use Rattle.list_elements.specs.Limits.{mostElements, longestText, listCheck};
-ghost use Rattle.list_elements.specs.Apart.{kindNumber, amount, detail, Apart};
+ghost use Rattle.list_elements.specs.Apart.{kindNumber, amount, detail, Apart, usableCount};
 
 // A text's length is within its limits, so that the number is small.
 pub fn kind_number(v: Value) -> u64
@@ -30,10 +30,18 @@ pub fn kind_number(v: Value) -> u64
     }
 }
 
-fn one_if(b: bool) -> i64
+// 1 for true.
+pub fn one_if(b: bool) -> i64
     ensures { λ r. ⌜ r ≡ cond b (pos 1) (pos 0) ⌝ }
 {
     if b { 1 } else { 0 }
+}
+
+// And back.
+pub fn truth(amount: i64) -> bool
+    ensures { λ r. ⌜ ((b : Bool) → amount ≡ cond b (pos 1) (pos 0) → r ≡ b) ⌝ }
+{
+    amount != 0
 }
 
 fn amount_of(v: Value) -> i64
@@ -55,6 +63,16 @@ fn detail_of(v: Value) -> usize
         Value::Decimal(d) => d.places,
         Value::Logical(_) => 0,
         Value::Text(t) => t.start,
+    }
+}
+
+// How many elements of a list are used: none of a bad one.
+pub fn usable(check: ListCheck, count: usize) -> usize
+    ensures { λ r. ⌜ r ≡ usableCount check count ⌝ }
+{
+    match check {
+        ListCheck::Good => count,
+        ListCheck::Bad { place: _ } => 0,
     }
 }
 

@@ -1,6 +1,7 @@
 // The list of elements, carried whole with its count.
 pub mod apart;
 mod limits;
+pub mod wanted;
 
 ghost use mathlib.Core.Path.{_≡_};
 ghost use Rattle.list_elements.specs.Elements.{emptyList};

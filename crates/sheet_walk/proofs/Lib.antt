@@ -11,3 +11,4 @@ pub mod ItemLaws
 pub mod TurnLaws
 pub mod Turned
 pub mod Passes
+pub mod Loads

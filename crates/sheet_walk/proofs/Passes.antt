@@ -1,26 +1,27 @@
 -- The walk over a loaded run: what holds at each turn of a pass.
 -- Assumes nothing.
-use mathlib.Core.Path.{_≡_, refl}
+use mathlib.Core.Path.{_≡_, refl, ap, subst, _∙_}
 use mathlib.Core.Bool.{cond}
 use mathlib.Core.List.{List, [], _∷_, map}
 use Prim.Native.Nat.{ℕ, zero, suc, _<_}
 use native.Mathlib.Omega.{arith}
-use lib.ListN.{length, drop, length-map}
+use lib.ListN.{length, drop, getD, length-map}
 use Rattle.format_grammar.specs.Met.{Met}
-use Rattle.format_grammar.specs.Promises.{AllMetWithin}
+use Rattle.format_grammar.specs.Promises.{MetWithin, AllMetWithin}
 use Rattle.format_words.specs.Words.{metOf}
+use Rattle.list_elements.specs.Elements.{Kind}
 use Rattle.list_elements.specs.Apart.{kindFrom}
-use Rattle.sheet_walk.specs.Steps.{isField, start}
+use Rattle.sheet_walk.specs.Steps.{What, element, literal, Placement, isField, start}
 use Rattle.sheet_walk.specs.Walk.{Sheet, walk}
 use Rattle.sheet_walk.specs.Promises.{Walkable}
-use Rattle.sheet_walk.specs.Turns.{Standing, Loaded, cursor, sheetOf, turnOf}
+use Rattle.sheet_walk.specs.Turns.{whatOf, Covering, WordCovers, Standing, Loaded, cursor, sheetOf, turnOf}
 use Rattle.sheet_walk.specs.declared.Records.{Records}
 use Rattle.sheet_walk.specs.declared.State.{State}
 use Rattle.sheet_walk.specs.declared.Cursor.{Cursor}
 use Rattle.sheet_walk.specs.declared.Turn.{Turn}
-use Rattle.sheet_walk.proofs.StepLaws.{fieldsOf, fieldsIn}
+use Rattle.sheet_walk.proofs.StepLaws.{fieldsOf, fieldsIn, CoveredBy, Covered}
 use Rattle.sheet_walk.proofs.Covering.{Stands, start-stands}
-use Rattle.sheet_walk.proofs.ItemLaws.{field-is}
+use Rattle.sheet_walk.proofs.ItemLaws.{field-is, item-at, word-at}
 use Rattle.sheet_walk.proofs.TurnLaws.{walkAt}
 use Rattle.sheet_walk.proofs.Turned as turned
 
@@ -43,6 +44,16 @@ fields-any t u (w ∷ ws) (suc i) = fields-any t u ws i
 -- the most turns still to come, by the words
 abbrev pub wordTurns : List ℕ → List ℕ → Cursor → ℕ
 wordTurns words kinds c = turned.turnsLeft (length kinds) (map (metOf []) words) c
+
+-- ---- what covers columns, by its item
+
+covered-what : (kinds : List Kind) (x : Met) (s : State) (w : ℕ) (what : What) → CoveredBy kinds x s w what → what ≡ whatOf x (s .taken)
+covered-what kinds x s w (element i f) by = rw (by .0, by .1)
+covered-what kinds x s w (literal cs) by = rw (by .0)
+
+covered-covering : (kinds : List Kind) (x : Met) (s : State) (w : ℕ) (what : What) → CoveredBy kinds x s w what → Covering kinds x (s .taken) w
+covered-covering kinds x s w (element i f) by = rw (by .0, ← by .1) (by .2)
+covered-covering kinds x s w (literal cs) by = rw (by .0) (by .1)
 
 -- ---- a loaded run
 
@@ -100,3 +111,28 @@ module _ (t ws : List ℕ) (back : ℕ) (ks : List ℕ) (rs : Records) (l : Load
         fields-any t [] ws (n .index),
         fields-any t [] ws (c .index),
       ) at h
+
+  -- ---- a turn that covers columns: its word, and what covers them
+
+  module _ (c : Cursor) (p : Placement) (n : State) (i : c .index < length (theSheet .items))
+      (d : Covered (theSheet .kinds) rs (turned.itemAt theSheet c) (c .state) p n) where
+    pub in-words : c .index < length ws
+    in-words = let e : length (map (metOf t) ws) ≡ length ws = length-map ws (metOf t) in omega (arith, i)
+
+    word-is : turned.itemAt theSheet c ≡ metOf t (getD ws (c .index) 0)
+    word-is = item-at t ws (c .index) Met.slash in-words
+
+    pub what-is : p .what ≡ whatOf (metOf t (getD ws (c .index) 0)) (c .state .taken)
+    what-is =
+        covered-what (theSheet .kinds) (turned.itemAt theSheet c) (c .state) (p .width) (p .what) (d .by)
+        ∙ ap (λ x. whatOf x (c .state .taken)) word-is
+
+    pub word-covers : WordCovers t (map kindFrom ks) (getD ws (c .index) 0) (c .state .taken) (p .width)
+    word-covers =
+        record {
+          sound = word-at (length t) ws (c .index) (l .sound) in-words;
+          within = subst MetWithin word-is (turned.within-at (map (metOf t) ws) (c .index) (l .within));
+          covers =
+              subst (λ x. Covering (map kindFrom ks) x (c .state .taken) (p .width)) word-is
+              (covered-covering (theSheet .kinds) (turned.itemAt theSheet c) (c .state) (p .width) (p .what) (d .by));
+        }

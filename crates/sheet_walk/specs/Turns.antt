@@ -2,19 +2,24 @@
 -- to the walk.)
 -- Assumes nothing.
 use mathlib.Core.Bool.{cond}
-use mathlib.Core.List.{List, map}
+use mathlib.Core.Path.{_≡_}
+use mathlib.Core.List.{List, [], map}
 use Prim.Native.Nat.{ℕ, _+_, _*_, _/_, _^_, _<_, _≤_}
 use lib.Dec.{ltb}
 use lib.ListN.{length, drop, getD}
 use Rattle.format_grammar.specs.Items.{Field}
 use Rattle.format_grammar.specs.Met.{Met}
-use Rattle.format_grammar.specs.Promises.{AllMetWithin}
+use Rattle.format_grammar.specs.Promises.{MetWithin, AllMetWithin}
 use Rattle.format_words.specs.Words.{metOf}
-use Rattle.format_run.specs.Runs.{RunWords}
+use Rattle.format_run.specs.Runs.{RunWord, RunWords}
+use Rattle.format_load.specs.Loaded.{RunHeld}
+use Rattle.list_elements.specs.Elements.{Kind}
 use Rattle.list_elements.specs.Apart.{kindFrom}
 use Rattle.sheet_walk.specs.Steps as steps
+use Rattle.sheet_walk.specs.Steps.{What, element, literal}
 use Rattle.sheet_walk.specs.Walk.{Sheet}
 use Rattle.sheet_walk.specs.Laid.{offsetOf}
+use Rattle.sheet_walk.specs.Promises.{Suited}
 use Rattle.sheet_walk.specs.declared.Records.{Records}
 use Rattle.sheet_walk.specs.declared.State.{State}
 use Rattle.sheet_walk.specs.declared.Cursor.{Cursor}
@@ -48,6 +53,30 @@ fieldColumns (Field.F w d) k = w
 fieldColumns (Field.L w) k = w
 fieldColumns Field.A k = k / 4
 fieldColumns (Field.Aw w) k = w
+
+-- ---- what the item of a word covers columns with
+
+-- what an item covers columns with, where element i is the next one
+abbrev pub whatOf : Met → ℕ → What
+whatOf (Met.field f) i = element i f
+whatOf (Met.X n) i = literal []
+whatOf (Met.T n) i = literal []
+whatOf Met.slash i = literal []
+whatOf (Met.literal cs) i = literal cs
+
+-- an item covers w columns: a field that the element's kind suits, or a literal of so many characters
+abbrev pub Covering : List Kind → Met → ℕ → ℕ → Type 0
+Covering kinds (Met.field f) i w = Suited kinds i f w
+Covering kinds (Met.X n) i w = ⊥
+Covering kinds (Met.T n) i w = ⊥
+Covering kinds Met.slash i w = ⊥
+Covering kinds (Met.literal cs) i w = w ≡ length cs
+
+-- the item of a word, met where element i of these kinds is the next one, covers w columns
+pub record WordCovers (t : List ℕ) (kinds : List Kind) (word i w : ℕ) : Type 0 where
+  pub sound : RunWord (length t) word
+  pub within : MetWithin (metOf t word)
+  pub covers : Covering kinds (metOf t word) i w
 
 -- ---- steps and turns
 
@@ -88,6 +117,18 @@ pub record Loaded (t words kinds : List ℕ) (rs : Records) : Type 0 where
   pub narrow : rs .width < 256
   pub many : rs .count < 2 ^ 63
   pub fits : rs .count * rs .width < 2 ^ 63
+
+-- the run of an accepted format, whichever it is
+pub record SomeRun (t words : List ℕ) (back : ℕ) : Type 0 where
+  pub format : List ℕ
+  pub held : RunHeld format t words back
+
+-- there is a record, and the records lie in a buffer of B bytes
+pub record Roomy (rs : Records) (B : ℕ) : Type 0 where
+  pub some-record : 0 < rs .count
+  pub wide : 1 ≤ rs .width
+  pub narrow : rs .width < 256
+  pub room : rs .count * rs .width ≤ B
 
 -- the step of a cursor, and the index of the item after it, the part to return to beginning at `back`
 unfoldable pub stepAt : Sheet → Cursor → steps.Step

@@ -21,6 +21,9 @@ pub enum Refusal {
     TextArea,
 }
 
+// The widest record.
+pub const WIDEST_RECORD: usize = 255;
+
 // The records that a buffer holds: their width and their number.
 pub struct Records {
     pub width: usize,

@@ -11,7 +11,7 @@ use lib.Seq.{length-take-le}
 use Rattle.format_grammar.specs.Check.{outcome}
 use Rattle.list_elements.specs.Elements.{values}
 use Rattle.list_elements.specs.Limits.{withinLimits, listCheck}
-use Rattle.list_elements.specs.Apart.{Apart}
+use Rattle.list_elements.specs.Apart.{Apart, usableCount}
 use Rattle.list_elements.proofs.ApartLaws.{check-good}
 use Rattle.list_elements.specs.declared.Value.{Value}
 use Rattle.list_elements.specs.declared.List as carried
@@ -19,7 +19,7 @@ use Rattle.list_elements.specs.declared.ListCheck.{ListCheck}
 use Rattle.list_elements.specs.declared.ListCheck.the-variants.{Good, Bad}
 use Rattle.sheet_walk.specs.declared.Refusal.the-variants.{RecordWidth}
 use Rattle.sheet_write.specs.Writing.{Writing, accepts, refuses, checkFormat, writingOf, writing, answerOf, writeAnswer, writeBuffer, writingNumber, writingPlace, writingRecords, writingStarred, answerNumber, answerPlace, answerRecords, answerStarred}
-use Rattle.sheet_write.specs.Parts.{usableCount, ListedIf, Wrote}
+use Rattle.sheet_write.specs.Parts.{ListedIf, Wrote}
 use Rattle.sheet_write.specs.declared.Written.{Written}
 use Rattle.sheet_write.specs.declared.Written.the-variants as answer
 

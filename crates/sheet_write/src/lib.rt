@@ -1,7 +1,6 @@
 // Writing: the public call.
+mod formats;
 mod records;
-mod runs;
-mod texts;
 pub mod write;
 
 use sheet_walk::Refusal;

@@ -5,7 +5,8 @@ use sheet_walk::Records;
 use write_passes::checking::check_pass;
 use write_passes::laying::lay_pass;
 ghost use lib.ListN.{length};
-ghost use Rattle.sheet_write.specs.Parts.{Roomy, SomeReady, WroteWords};
+ghost use Rattle.sheet_walk.specs.Turns.{Roomy};
+ghost use Rattle.sheet_write.specs.Parts.{SomeReady, WroteWords};
 
 pub fn write_records(
     rs: Records,

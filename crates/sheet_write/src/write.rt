@@ -1,28 +1,15 @@
 // The public call.
 use crate::Written;
-use crate::texts::write_list;
+use crate::formats::write_small;
 use list_elements::List;
-use list_elements::ListCheck;
 use list_elements::apart::take_apart;
+use list_elements::apart::usable;
 use sheet_walk::Refusal;
+use sheet_walk::WIDEST_RECORD;
 ghost use mathlib.Core.Path.{_≡_};
 ghost use lib.ListN.{length};
 ghost use Rattle.list_elements.specs.Elements.{values};
 ghost use Rattle.sheet_write.specs.Writing.{writing, writeAnswer, writeBuffer, answerNumber, answerPlace, answerRecords, answerStarred, writingNumber, writingPlace, writingRecords, writingStarred};
-ghost use Rattle.sheet_write.specs.Parts.{usableCount};
-
-// The widest record.
-const WIDEST_RECORD: usize = 255;
-
-// How many elements are used: none of a bad list.
-fn usable(check: ListCheck, count: usize) -> usize
-    ensures { λ r. ⌜ r ≡ usableCount check count ⌝ }
-{
-    match check {
-        ListCheck::Good => count,
-        ListCheck::Bad { place: _ } => 0,
-    }
-}
 
 // Writes the list, its texts being in the area, under the format into records of this width in the buffer; or refuses, and
 // leaves the buffer as it was. Any width, any bytes, any list.
@@ -46,7 +33,7 @@ pub fn write(width: usize, format: &[u8], list: List, area: &[u8], buffer: &mut 
     let mut details = [0usize; 64];
     let check = take_apart(list, area, &mut kinds, &mut amounts, &mut details);
     let n = usable(check, count);
-    write_list(
+    write_small(
         width,
         format,
         check,

@@ -8,7 +8,6 @@ use native.Mathlib.Omega.{arith}
 use lib.IntN.{ℤ}
 use lib.ListN.{length, getD, length-map}
 use Rattle.format_grammar.specs.Met.{Met}
-use Rattle.format_grammar.specs.Promises.{MetWithin}
 use Rattle.format_words.specs.Words.{metOf}
 use Rattle.list_elements.specs.Elements.{Kind, kindOf}
 use Rattle.list_elements.specs.Apart.{kindFrom}
@@ -16,55 +15,39 @@ use Rattle.list_elements.proofs.ApartLaws.{kinds-from}
 use Rattle.list_elements.specs.declared.Value.{Value}
 use Rattle.sheet_walk.specs.Steps.{What, element, literal, Placement}
 use Rattle.sheet_walk.specs.Walk.{Trace, put, walk}
-use Rattle.sheet_walk.specs.Turns.{sheetOf}
+use Rattle.sheet_walk.specs.Turns.{whatOf, WordCovers, sheetOf}
 use Rattle.sheet_walk.specs.declared.Refusal.the-variants.{TooLarge}
 use Rattle.sheet_walk.specs.declared.Records.{Records}
 use Rattle.sheet_walk.specs.declared.State.{State}
 use Rattle.sheet_walk.specs.declared.Cursor.{Cursor}
-use Rattle.sheet_walk.proofs.StepLaws.{CoveredBy, Covered}
+use Rattle.sheet_walk.proofs.StepLaws.{Covered}
 use Rattle.sheet_walk.proofs.Covering.{Stands}
-use Rattle.sheet_walk.proofs.ItemLaws.{item-at, word-at}
 use Rattle.sheet_walk.proofs.TurnLaws.{walkAt}
-use Rattle.sheet_walk.proofs.Turned.{itemAt, within-at}
+use Rattle.sheet_walk.proofs.Turned.{itemAt}
+use Rattle.sheet_walk.proofs.Passes as passes
 use Rattle.write_passes.specs.Placed.{Judged, refused, judgedAt, judged}
-use Rattle.write_passes.specs.Passes.{whatOf, whatTooLarge, Covering, Placeable, Ready}
+use Rattle.write_passes.specs.Passes.{whatTooLarge, Placeable, Ready}
 use Rattle.write_passes.proofs.ValueLaws.{no-way}
 
--- ---- what covers columns, by its item
-
-covered-what : (kinds : List Kind) (x : Met) (s : State) (w : ℕ) (what : What) → CoveredBy kinds x s w what → what ≡ whatOf x (s .taken)
-covered-what kinds x s w (element i f) by = rw (by .0, by .1)
-covered-what kinds x s w (literal cs) by = rw (by .0)
-
-covered-covering : (kinds : List Kind) (x : Met) (s : State) (w : ℕ) (what : What) → CoveredBy kinds x s w what → Covering kinds x (s .taken) w
-covered-covering kinds x s w (element i f) by = rw (by .0, ← by .1) (by .2)
-covered-covering kinds x s w (literal cs) by = rw (by .0) (by .1)
+-- ---- a placement of the walk, of a good list
 
 module _ {t area : List ℕ} {vs : List Value} {ws ks : List ℕ} {ms : List ℤ} {ds : List ℕ} {rs : Records} (back : ℕ) (r : Ready t area vs ws ks ms ds rs) where
   module _ (c : Cursor) (p : Placement) (n : State) (l : c .index < length (map (metOf t) ws))
       (d : Covered (map kindFrom ks) rs (itemAt (sheetOf t ws back ks rs) c) (c .state) p n) where
     pub in-words : c .index < length ws
-    in-words = let e : length (map (metOf t) ws) ≡ length ws = length-map ws (metOf t) in omega (arith, l)
-
-    word-is : itemAt (sheetOf t ws back ks rs) c ≡ metOf t (getD ws (c .index) 0)
-    word-is = item-at t ws (c .index) Met.slash in-words
+    in-words = passes.in-words t ws back ks rs (r .loaded) c p n l d
 
     pub what-is : p .what ≡ whatOf (metOf t (getD ws (c .index) 0)) (c .state .taken)
-    what-is =
-        covered-what (map kindFrom ks) (itemAt (sheetOf t ws back ks rs) c) (c .state) (p .width) (p .what) (d .by)
-        ∙ ap (λ x. whatOf x (c .state .taken)) word-is
+    what-is = passes.what-is t ws back ks rs (r .loaded) c p n l d
 
     pub placeable : Placeable t area vs ks ms ds (getD ws (c .index) 0) (c .state .taken) (p .width)
     placeable =
         record {
-          sound = word-at (length t) ws (c .index) (r .loaded .sound) in-words;
-          within = subst MetWithin word-is (within-at (map (metOf t) ws) (c .index) (r .loaded .within));
+          on-walk =
+              subst (λ z. WordCovers t z (getD ws (c .index) 0) (c .state .taken) (p .width)) (kinds-from (r .apart))
+              (passes.word-covers t ws back ks rs (r .loaded) c p n l d);
           apart = r .apart;
           good = r .good;
-          covers =
-              subst (λ x. Covering (map kindOf vs) x (c .state .taken) (p .width)) word-is
-              (subst (λ z. Covering z (itemAt (sheetOf t ws back ks rs) c) (c .state .taken) (p .width)) (kinds-from (r .apart))
-              (covered-covering (map kindFrom ks) (itemAt (sheetOf t ws back ks rs) c) (c .state) (p .width) (p .what) (d .by)));
         }
 
 -- ---- the check of one value

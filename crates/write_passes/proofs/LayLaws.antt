@@ -13,7 +13,7 @@ use Rattle.sheet_walk.specs.Steps.{What, element, literal, Placement}
 use Rattle.sheet_walk.specs.Walk.{Sheet, Trace, put, done, stopped, walk}
 use Rattle.sheet_walk.specs.Laid.{offsetOf, laid}
 use Rattle.sheet_walk.specs.Promises.{Walkable, placeOf, elementsPut, numbersFrom}
-use Rattle.sheet_walk.specs.Turns.{sheetOf}
+use Rattle.sheet_walk.specs.Turns.{whatOf, sheetOf}
 use Rattle.sheet_walk.specs.declared.Records.{Records}
 use Rattle.sheet_walk.specs.declared.State.{State}
 use Rattle.sheet_walk.specs.declared.Cursor.{Cursor}
@@ -22,7 +22,7 @@ use Rattle.sheet_walk.proofs.Covering.{Stands, covered-inside, puts-each}
 use Rattle.sheet_walk.proofs.Windows.{inside-room}
 use Rattle.sheet_walk.proofs.TurnLaws.{walkAt}
 use Rattle.write_passes.specs.Placed.{fieldStarred, valueAt, charactersOf, characters, starredOf, starredIn, accepted, judged}
-use Rattle.write_passes.specs.Passes.{whatOf, whatTooLarge}
+use Rattle.write_passes.specs.Passes.{whatTooLarge}
 use Rattle.write_passes.proofs.PlacedLaws.{judged-ends}
 use Rattle.write_passes.proofs.CheckLaws.{put-large, put-small}
 

@@ -32,9 +32,10 @@ use Rattle.list_elements.proofs.LimitLaws.{from-bits}
 use Rattle.list_elements.specs.declared.Value.{Value}
 use Rattle.sheet_walk.specs.Steps.{suits, isText}
 use Rattle.sheet_walk.specs.Promises.{Suited}
+use Rattle.sheet_walk.specs.Turns.{whatOf, Covering}
 use Rattle.sheet_walk.proofs.ItemLaws.{literal-length}
 use Rattle.write_passes.specs.Placed.{integerOf, decimalOf, logicalOf, spanOf, fieldCharacters, fieldStarred, fieldTooLarge, valueAt, charactersOf, starredOf}
-use Rattle.write_passes.specs.Passes.{whatOf, whatTooLarge, putStars, Covering, Placeable}
+use Rattle.write_passes.specs.Passes.{whatTooLarge, putStars, Placeable}
 use Rattle.write_passes.proofs.ValueLaws.{integer-data, decimal-data, logical-data, text-data}
 
 module _ {t area : List ℕ} {vs : List Value} {ks : List ℕ} {ms : List ℤ} {ds : List ℕ} {word i w : ℕ} (p : Placeable t area vs ks ms ds word i w) where
@@ -44,7 +45,7 @@ module _ {t area : List ℕ} {vs : List Value} {ks : List ℕ} {ms : List ℤ} {
   -- what a field's placement says
   module _ (f : Field ℕ) (e : metOf t word ≡ Met.field f) where
     suited : Suited (map elements.kindOf vs) i f w
-    suited = subst (λ x. Covering (map elements.kindOf vs) x i w) e (p .covers)
+    suited = subst (λ x. Covering (map elements.kindOf vs) x i w) e (p .on-walk .covers)
 
     known : i < length vs
     known = let l : length (map elements.kindOf vs) ≡ length vs = length-map vs elements.kindOf in omega (arith, suited .known)
@@ -65,7 +66,7 @@ module _ {t area : List ℕ} {vs : List Value} {ks : List ℕ} {ms : List ℤ} {
     in-details = omega (arith, known, details-length (p .apart))
 
     field-within : MetWithin (Met.field f)
-    field-within = subst MetWithin e (p .within)
+    field-within = subst MetWithin e (p .on-walk .within)
 
   -- I
   module _ (k : kindOf word ≡ 0) where
@@ -231,9 +232,9 @@ module _ {t area : List ℕ} {vs : List Value} {ks : List ℕ} {ms : List ℤ} {
   -- a literal: no other item covers columns
   pub is-covering : (kindOf word ≡ 5 → ⊥) × (kindOf word ≡ 6 → ⊥) × (kindOf word ≡ 7 → ⊥)
   is-covering = (
-    (λ e. subst (λ x. Covering (map elements.kindOf vs) x i w) (is-X t word e) (p .covers)),
-    (λ e. subst (λ x. Covering (map elements.kindOf vs) x i w) (is-T t word e) (p .covers)),
-    (λ e. subst (λ x. Covering (map elements.kindOf vs) x i w) (is-slash t word e) (p .covers)),
+    (λ e. subst (λ x. Covering (map elements.kindOf vs) x i w) (is-X t word e) (p .on-walk .covers)),
+    (λ e. subst (λ x. Covering (map elements.kindOf vs) x i w) (is-T t word e) (p .on-walk .covers)),
+    (λ e. subst (λ x. Covering (map elements.kindOf vs) x i w) (is-slash t word e) (p .on-walk .covers)),
   )
 
   module _ (k : 4 < kindOf word) where
@@ -244,13 +245,13 @@ module _ {t area : List ℕ} {vs : List Value} {ks : List ℕ} {ms : List ℤ} {
     the-literal = is-literal t word high
 
     literal-wide : w ≡ secondOf word
-    literal-wide = subst (λ x. Covering (map elements.kindOf vs) x i w) the-literal (p .covers) ∙ literal-length t word (p .sound) high
+    literal-wide = subst (λ x. Covering (map elements.kindOf vs) x i w) the-literal (p .on-walk .covers) ∙ literal-length t word (p .on-walk .sound) high
 
     pub literal-inside : firstOf word + w ≤ length t
     unfolding reach
     literal-inside =
-        let e : kindOf word ≡ 8 = let g = p .sound .0 in let h = high in omega arith in
-        let r : firstOf word + secondOf word ≤ length t = rw e at (p .sound .1) in
+        let e : kindOf word ≡ 8 = let g = p .on-walk .sound .0 in let h = high in omega arith in
+        let r : firstOf word + secondOf word ≤ length t = rw e at (p .on-walk .sound .1) in
         rw literal-wide r
 
     pub literal-starred : starredOf vs w (whatOf (metOf t word) i) ≡ false

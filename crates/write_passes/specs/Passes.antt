@@ -3,47 +3,26 @@
 -- Assumes nothing.
 use mathlib.Core.Path.{_≡_}
 use mathlib.Core.Bool.{Bool, true, false}
-use mathlib.Core.List.{List, [], map}
+use mathlib.Core.List.{List, map}
 use Prim.Native.Nat.{ℕ}
 use lib.IntN.{ℤ}
-use lib.ListN.{length}
 use Rattle.field_written.specs.declared.Put.{Put}
 use Rattle.field_written.specs.declared.Put.the-variants.{Shown, Starred, TooLarge}
-use Rattle.format_grammar.specs.Met.{Met}
-use Rattle.format_grammar.specs.Promises.{MetWithin}
 use Rattle.format_words.specs.Words.{metOf}
-use Rattle.format_run.specs.Runs.{RunWord}
-use Rattle.list_elements.specs.Elements.{Kind, kindOf}
+use Rattle.list_elements.specs.Elements.{kindOf}
 use Rattle.list_elements.specs.Limits.{firstBad}
 use Rattle.list_elements.specs.Apart.{Apart}
 use Rattle.list_elements.specs.declared.Value.{Value}
 use Rattle.list_elements.specs.declared.ListCheck.the-variants.{Good}
 use Rattle.sheet_walk.specs.Steps.{What, element, literal}
 use Rattle.sheet_walk.specs.Walk.{walk}
-use Rattle.sheet_walk.specs.Promises.{Suited}
-use Rattle.sheet_walk.specs.Turns.{Loaded, sheetOf}
+use Rattle.sheet_walk.specs.Turns.{whatOf, WordCovers, Loaded, sheetOf}
 use Rattle.sheet_walk.specs.declared.Records.{Records}
 use Rattle.write_passes.specs.Placed.{fieldTooLarge, valueAt, Judged, accepted, refused, judged}
 use Rattle.sheet_walk.specs.declared.Ending.{Ending}
 use Rattle.sheet_walk.specs.declared.Ending.the-variants as ending
 
 -- ---- one placement
-
--- what an item covers columns with, where element i is the next one
-abbrev pub whatOf : Met → ℕ → What
-whatOf (Met.field f) i = element i f
-whatOf (Met.X n) i = literal []
-whatOf (Met.T n) i = literal []
-whatOf Met.slash i = literal []
-whatOf (Met.literal cs) i = literal cs
-
--- an item covers w columns: a field that the element's kind suits, or a literal of so many characters
-abbrev pub Covering : List Kind → Met → ℕ → ℕ → Type 0
-Covering kinds (Met.field f) i w = Suited kinds i f w
-Covering kinds (Met.X n) i w = ⊥
-Covering kinds (Met.T n) i w = ⊥
-Covering kinds Met.slash i w = ⊥
-Covering kinds (Met.literal cs) i w = w ≡ length cs
 
 -- a value is too large for what covers columns
 abbrev pub whatTooLarge : List Value → What → Bool
@@ -58,11 +37,9 @@ putStars TooLarge = false
 
 -- the item of a word, met where element i of a good list is the next one, covers w columns
 pub record Placeable (t area : List ℕ) (vs : List Value) (kinds : List ℕ) (amounts : List ℤ) (details : List ℕ) (word i w : ℕ) : Type 0 where
-  pub sound : RunWord (length t) word
-  pub within : MetWithin (metOf t word)
+  pub on-walk : WordCovers t (map kindOf vs) word i w
   pub apart : Apart vs kinds amounts details
   pub good : firstBad area 0 vs ≡ Good
-  pub covers : Covering (map kindOf vs) (metOf t word) i w
 
 -- for some list
 pub record Checkable (amounts : List ℤ) (details : List ℕ) (word i : ℕ) : Type 0 where

@@ -11,24 +11,18 @@ use format_words::KIND_BASE;
 use format_words::KIND_F;
 use format_words::KIND_I;
 use format_words::KIND_L;
+use format_words::second_of;
+use list_elements::apart::truth;
 ghost use mathlib.Core.Path.{_≡_};
-ghost use mathlib.Core.Bool.{Bool, cond};
 ghost use mathlib.Core.List.{List};
 ghost use Prim.Native.Nat.{ℕ, _+_, _≤_};
-ghost use lib.IntN.{pos};
 ghost use lib.ListN.{length};
 ghost use Rattle.buffer.specs.Splice.{splice};
-ghost use Rattle.format_words.specs.Words.{secondOf, metOf};
+ghost use Rattle.format_words.specs.Words.{metOf};
 ghost use Rattle.list_elements.specs.declared.Value.{Value};
+ghost use Rattle.sheet_walk.specs.Turns.{whatOf};
 ghost use Rattle.write_passes.specs.Placed.{charactersOf, starredOf};
-ghost use Rattle.write_passes.specs.Passes.{whatOf, whatTooLarge, putStars, Placeable, Placed, Checkable, Puttable};
-
-// A word's second number: d in Fw.d.
-fn second(word: u64) -> usize
-    ensures { λ r. ⌜ r ≡ secondOf word ⌝ }
-{
-    (word / KIND_BASE / FIRST_BASE) as usize
-}
+ghost use Rattle.write_passes.specs.Passes.{whatTooLarge, putStars, Placeable, Placed, Checkable, Puttable};
 
 // Whether a decimal was starred.
 fn is_starred(put: Put) -> bool
@@ -41,20 +35,13 @@ fn is_starred(put: Put) -> bool
     }
 }
 
-// A logical from its amount.
-fn truth(amount: i64) -> bool
-    ensures { λ r. ⌜ ((b : Bool) → amount ≡ cond b (pos 1) (pos 0) → r ≡ b) ⌝ }
-{
-    amount != 0
-}
-
 // Whether the value of element i is too large for the field of a word: only a decimal's can be.
 pub fn too_large(word: u64, amounts: &[i64], details: &[usize], i: usize) -> bool
     requires { ⌜ Checkable (now amounts) (now details) word i ⌝ }
     ensures { λ r. ⌜ ((t area : List ℕ) (vs : List Value) (ks : List ℕ) (w : ℕ) → Placeable t area vs ks (now (amounts .entry)) (now (details .entry)) word i w → r ≡ whatTooLarge vs (whatOf (metOf t word) i)) ⌝ }
 {
     if word % KIND_BASE == KIND_F {
-        return number::rounding::too_large(amounts[i], details[i], second(word));
+        return number::rounding::too_large(amounts[i], details[i], second_of(word));
     }
     false
 }
@@ -79,7 +66,14 @@ pub fn put(
 {
     match word % KIND_BASE {
         KIND_I => write_integer(dst, at, width, amounts[i]),
-        KIND_F => is_starred(write_decimal(dst, at, width, second(word), amounts[i], details[i])),
+        KIND_F => is_starred(write_decimal(
+            dst,
+            at,
+            width,
+            second_of(word),
+            amounts[i],
+            details[i],
+        )),
         KIND_L => {
             write_logical(dst, at, width, truth(amounts[i]));
             false

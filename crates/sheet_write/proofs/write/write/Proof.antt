@@ -42,29 +42,29 @@ usable-requires c κs = search needs
 array-share-prefix-kinds : tie.Need-array-share-prefix-kinds
 array-share-prefix-kinds c = let g : length (c .before .before .before .before .take-apart .last .1 .1 .0) ≡ 64 = search needs in omega (arith, few c)
 
-slice-aggregate-write-list : tie.Need-slice-aggregate-write-list
-slice-aggregate-write-list c = let g : length (c .before .before .before .before .before .take-apart .last .1 .1 .0) ≡ 64 = search needs in sym (length-take-le _ _ (omega (arith, few (c .before))))
+slice-aggregate-write-small : tie.Need-slice-aggregate-write-small
+slice-aggregate-write-small c = let g : length (c .before .before .before .before .before .take-apart .last .1 .1 .0) ≡ 64 = search needs in sym (length-take-le _ _ (omega (arith, few (c .before))))
 
 array-share-prefix-amounts : tie.Need-array-share-prefix-amounts
 array-share-prefix-amounts c = let g : length (c .before .before .before .before .before .take-apart .last .1 .1 .1 .0) ≡ 64 = search needs in omega (arith, few (c .before))
 
-slice-aggregate-write-list-2 : tie.Need-slice-aggregate-write-list-2
-slice-aggregate-write-list-2 c = let g : length (c .before .before .before .before .before .before .take-apart .last .1 .1 .1 .0) ≡ 64 = search needs in sym (length-take-le _ _ (omega (arith, few (c .before .before))))
+slice-aggregate-write-small-2 : tie.Need-slice-aggregate-write-small-2
+slice-aggregate-write-small-2 c = let g : length (c .before .before .before .before .before .before .take-apart .last .1 .1 .1 .0) ≡ 64 = search needs in sym (length-take-le _ _ (omega (arith, few (c .before .before))))
 
 array-share-prefix-details : tie.Need-array-share-prefix-details
 array-share-prefix-details c = let g : length (c .before .before .before .before .before .before .take-apart .last .1 .1 .1 .1 .0) ≡ 64 = search needs in omega (arith, few (c .before .before))
 
-slice-aggregate-write-list-3 : tie.Need-slice-aggregate-write-list-3
-slice-aggregate-write-list-3 c = let g : length (c .before .before .before .before .before .before .before .take-apart .last .1 .1 .1 .1 .0) ≡ 64 = search needs in sym (length-take-le _ _ (omega (arith, few (c .before .before .before))))
+slice-aggregate-write-small-3 : tie.Need-slice-aggregate-write-small-3
+slice-aggregate-write-small-3 c = let g : length (c .before .before .before .before .before .before .before .take-apart .last .1 .1 .1 .1 .0) ≡ 64 = search needs in sym (length-take-le _ _ (omega (arith, few (c .before .before .before))))
 
-write-list-requires : tie.Need-write-list-requires
-write-list-requires c κs = let a = c .before .before .before .before .before .before .before .before .before .before .before .before .before .before .before .before .before in let t = c .before .before .before .before .before .before .before .before .take-apart in let g : length (t .last .1 .1 .0) ≡ 64 = search needs in (omega (arith, c .before .before .before .before .before .before .before .before .before .before .before .before .before .if1 .left), omega (arith, c .before .before .before .before .before .before .before .before .before .before .before .before .if2 .left), record { vs = values (a .args .list); listed-if = listed-if (a .args .area .now) (a .args .list) (t .result) (t .ensures .0) (t .last .1 .1 .0) (t .last .1 .1 .1 .0) (t .last .1 .1 .1 .1 .0) g (t .ensures .1) (c .before .before .before .before .usable .ensures) })
+write-small-requires : tie.Need-write-small-requires
+write-small-requires c κs = let a = c .before .before .before .before .before .before .before .before .before .before .before .before .before .before .before .before .before in let t = c .before .before .before .before .before .before .before .before .take-apart in let g : length (t .last .1 .1 .0) ≡ 64 = search needs in (omega (arith, c .before .before .before .before .before .before .before .before .before .before .before .before .before .if1 .left), omega (arith, c .before .before .before .before .before .before .before .before .before .before .before .before .if2 .left), record { vs = values (a .args .list); listed-if = listed-if (a .args .area .now) (a .args .list) (t .result) (t .ensures .0) (t .last .1 .1 .0) (t .last .1 .1 .1 .0) (t .last .1 .1 .1 .1 .0) g (t .ensures .1) (c .before .before .before .before .usable .ensures) })
 
 same-length : tie.Need-same-length
 same-length c = search needs
 
 returns-3 : tie.Need-returns-3
-returns-3 c = let a = c .before .before .before .before .before .before .before .before .before .before .before .before .before .before .before .before .before .before .before .before in let t = c .before .before .before .before .before .before .before .before .before .before .before .take-apart in let g : length (t .last .1 .1 .0) ≡ 64 = search needs in finished (a .args .width) (a .args .format .now) (a .args .list) (a .args .area .now) (a .args .buffer .now) (width-right (a .args .width) (a .args .format .now) (listCheck (a .args .area .now) (a .args .list)) (values (a .args .list)) (a .args .buffer .now) (omega (arith, c .before .before .before .before .before .before .before .before .before .before .before .before .before .before .before .before .if1 .left)) (omega (arith, c .before .before .before .before .before .before .before .before .before .before .before .before .before .before .before .if2 .left)) (t .result) (t .ensures .0) (c .before .before .write-list .ensures .wrote (values (a .args .list)) (listed-if (a .args .area .now) (a .args .list) (t .result) (t .ensures .0) (t .last .1 .1 .0) (t .last .1 .1 .1 .0) (t .last .1 .1 .1 .1 .0) g (t .ensures .1) (c .before .before .before .before .before .before .before .usable .ensures))))
+returns-3 c = let a = c .before .before .before .before .before .before .before .before .before .before .before .before .before .before .before .before .before .before .before .before in let t = c .before .before .before .before .before .before .before .before .before .before .before .take-apart in let g : length (t .last .1 .1 .0) ≡ 64 = search needs in finished (a .args .width) (a .args .format .now) (a .args .list) (a .args .area .now) (a .args .buffer .now) (width-right (a .args .width) (a .args .format .now) (listCheck (a .args .area .now) (a .args .list)) (values (a .args .list)) (a .args .buffer .now) (omega (arith, c .before .before .before .before .before .before .before .before .before .before .before .before .before .before .before .before .if1 .left)) (omega (arith, c .before .before .before .before .before .before .before .before .before .before .before .before .before .before .before .if2 .left)) (t .result) (t .ensures .0) (c .before .before .write-small .ensures .wrote (values (a .args .list)) (listed-if (a .args .area .now) (a .args .list) (t .result) (t .ensures .0) (t .last .1 .1 .0) (t .last .1 .1 .1 .0) (t .last .1 .1 .1 .1 .0) g (t .ensures .1) (c .before .before .before .before .before .before .before .usable .ensures))))
 
 pub write-spec : {M : Type 1} → statement M
 write-spec =
@@ -78,11 +78,11 @@ write-spec =
     take-apart-requires
     usable-requires
     array-share-prefix-kinds
-    slice-aggregate-write-list
+    slice-aggregate-write-small
     array-share-prefix-amounts
-    slice-aggregate-write-list-2
+    slice-aggregate-write-small-2
     array-share-prefix-details
-    slice-aggregate-write-list-3
-    write-list-requires
+    slice-aggregate-write-small-3
+    write-small-requires
     same-length
     returns-3)

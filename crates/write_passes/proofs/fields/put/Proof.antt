@@ -31,8 +31,8 @@ shared-slice-copy-out-write-integer c = I-amount (c .before .before .before .bef
 write-integer-requires : tie.Need-write-integer-requires
 write-integer-requires c κs = let a = c .before .before .before .before .before .before .before .before in let s = I-small (a .pre .1 .placed .placeable) (c .before .before .match .keys1) in (a .pre .0, rw (as-bits (getD (a .args .amounts .now) (a .args .i) (pos 0)) s) s)
 
-second-requires : tie.Need-second-requires
-second-requires c κs = search needs
+second-of-requires : tie.Need-second-of-requires
+second-of-requires c κs = search needs
 
 mul-write-decimal : tie.Need-mul-write-decimal
 mul-write-decimal c = let a = c .before .before .before .before .before .before .before .before in let h : a .args .i < length (a .args .amounts .now) = F-amount (a .pre .1 .placed .placeable) (c .before .before .match .keys2) in search needs
@@ -47,7 +47,7 @@ shared-slice-read-write-decimal : tie.Need-shared-slice-read-write-decimal
 shared-slice-read-write-decimal c = F-detail (c .before .before .before .before .before .before .before .before .before .before .pre .1 .placed .placeable) (c .before .before .before .before .match .keys2)
 
 write-decimal-requires : tie.Need-write-decimal-requires
-write-decimal-requires c κs = let a = c .before .before .before .before .before .before .before .before .before .before in let p = a .pre .1 .placed .placeable in let k = c .before .before .before .before .match .keys2 in let s = F-small p k in (a .pre .0, rw (c .before .before .second .ensures) (F-wanted p k), rw (as-bits (getD (a .args .amounts .now) (a .args .i) (pos 0)) s) s, F-places p k)
+write-decimal-requires c κs = let a = c .before .before .before .before .before .before .before .before .before .before in let p = a .pre .1 .placed .placeable in let k = c .before .before .before .before .match .keys2 in let s = F-small p k in (a .pre .0, rw (c .before .before .second-of .ensures) (F-wanted p k), rw (as-bits (getD (a .args .amounts .now) (a .args .i) (pos 0)) s) s, F-places p k)
 
 is-starred-requires : tie.Need-is-starred-requires
 is-starred-requires c κs = search needs
@@ -96,7 +96,7 @@ returns-2 c =
     let a = c .before .before .before .before .before .before .before .before .before .before .before .before .before .before in
     let k = c .before .before .before .before .before .before .before .before .match .keys2 in
     let u = getD (a .args .amounts .now) (a .args .i) (pos 0) in
-    let d = c .before .before .before .before .before .before .second .ensures in (
+    let d = c .before .before .before .before .before .before .second-of .ensures in (
       (λ vs p.
           rw (c .is-starred .ensures, rw (as-bits u (F-small (p .placeable) k), d) at (c .before .before .before .write-decimal .ensures .0))
           (put-stars (a .args .width) (secondOf (a .args .word)) u (getD (a .args .details .now) (a .args .i) 0) (sym (F-large (p .placeable) k) ∙ p .small)
@@ -149,7 +149,7 @@ put-spec =
     mul-write-integer
     shared-slice-copy-out-write-integer
     write-integer-requires
-    second-requires
+    second-of-requires
     mul-write-decimal
     shared-slice-copy-out-write-decimal
     mul-write-decimal-2

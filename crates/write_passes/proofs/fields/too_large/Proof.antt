@@ -21,14 +21,14 @@ mul-too-large-2 c = let a = c .before .before .before in let h : a .args .i < le
 shared-slice-read-too-large : tie.Need-shared-slice-read-too-large
 shared-slice-read-too-large c = F-detail (c .before .before .before .before .pre .placeable) (c .before .before .if1 .taken)
 
-second-requires : tie.Need-second-requires
-second-requires c κs = search needs
+second-of-requires : tie.Need-second-of-requires
+second-of-requires c κs = search needs
 
 too-large-requires : tie.Need-too-large-requires
-too-large-requires c κs = let a = c .before .before .before .before .before in let p = a .pre .placeable in let k = c .before .before .before .if1 .taken in let s = F-small p k in (rw (as-bits (getD (a .args .amounts .now) (a .args .i) (pos 0)) s) s, F-places p k, rw (c .second .ensures) (F-wanted p k))
+too-large-requires c κs = let a = c .before .before .before .before .before in let p = a .pre .placeable in let k = c .before .before .before .if1 .taken in let s = F-small p k in (rw (as-bits (getD (a .args .amounts .now) (a .args .i) (pos 0)) s) s, F-places p k, rw (c .second-of .ensures) (F-wanted p k))
 
 returns : tie.Need-returns
-returns c = λ t area vs ks w p. let a = c .before .before .before .before .before .before in let k = c .before .before .before .before .if1 .taken in rw (as-bits (getD (a .args .amounts .now) (a .args .i) (pos 0)) (F-small p k), c .before .second .ensures) at (c .too-large .ensures) ∙ sym (F-large p k)
+returns c = λ t area vs ks w p. let a = c .before .before .before .before .before .before in let k = c .before .before .before .before .if1 .taken in rw (as-bits (getD (a .args .amounts .now) (a .args .i) (pos 0)) (F-small p k), c .before .second-of .ensures) at (c .too-large .ensures) ∙ sym (F-large p k)
 
 returns-2 : tie.Need-returns-2
 returns-2 c = λ t area vs ks w p. sym (other-large p (c .if1 .left))
@@ -41,7 +41,7 @@ too-large-spec =
     shared-slice-copy-out-too-large
     mul-too-large-2
     shared-slice-read-too-large
-    second-requires
+    second-of-requires
     too-large-requires
     returns
     returns-2)

@@ -14,14 +14,14 @@ use Rattle.list_elements.specs.Apart.{kindFrom}
 use Rattle.list_elements.specs.declared.Value.{Value}
 use Rattle.sheet_walk.specs.Walk.{Trace}
 use Rattle.sheet_walk.specs.Laid.{laid}
-use Rattle.sheet_walk.specs.Turns.{sheetOf}
+use Rattle.sheet_walk.specs.Turns.{whatOf, sheetOf}
 use Rattle.sheet_walk.specs.declared.Cursor.{Cursor}
 use Rattle.sheet_walk.specs.declared.Turn.{Turn}
 use Rattle.sheet_walk.specs.declared.Turn.the-variants as turn
 use Rattle.sheet_walk.proofs.TurnLaws.{walkAt}
 use Rattle.sheet_walk.proofs.Passes as passes
 use Rattle.write_passes.specs.Placed.{charactersOf, characters, starredOf, starredIn, judged}
-use Rattle.write_passes.specs.Passes.{whatOf, Passed, Placed}
+use Rattle.write_passes.specs.Passes.{Passed, Placed}
 use Rattle.write_passes.proofs.CheckLaws.{in-words, what-is, placeable}
 use Rattle.write_passes.proofs.LayLaws.{few-starred, Laying, laid-more, stars-more, put-accepted, put-room}
 use Rattle.write_passes.proofs.laying.lay_pass.Statement.{statement}
