@@ -1,8 +1,9 @@
 -- The item that a word stands for, by its kind.
 -- Assumes nothing.
-use mathlib.Core.Path.{_≡_}
+use mathlib.Core.Path.{_≡_, refl}
+use mathlib.Core.Logic.{_⊎_, inl, inr}
 use mathlib.Core.List.{List}
-use Prim.Native.Nat.{ℕ, _<_}
+use Prim.Native.Nat.{ℕ, zero, suc, _<_}
 use native.Mathlib.Omega.{arith}
 use borrow.Author.Tests.{ne-eqb}
 use lib.ListN.{take, drop}
@@ -56,3 +57,12 @@ module _ (t : List ℕ) (w : ℕ) where
         ne-eqb (kindOf w) 6 (λ e. omega arith),
         ne-eqb (kindOf w) 7 (λ e. omega arith),
       )
+
+-- the kind of A or Aw, from the other arms of a match on it
+pub text-kind : (n : ℕ) → ((Unit {0} × (n ≡ 0 → ⊥)) × (n ≡ 1 → ⊥)) × (n ≡ 2 → ⊥) → n < 5 → (n ≡ 3) ⊎ (n ≡ 4)
+text-kind zero r h = absurd (r .0 .0 .1 refl)
+text-kind (suc zero) r h = absurd (r .0 .1 refl)
+text-kind (suc (suc zero)) r h = absurd (r .1 refl)
+text-kind (suc (suc (suc zero))) r h = inl refl
+text-kind (suc (suc (suc (suc zero)))) r h = inr refl
+text-kind (suc (suc (suc (suc (suc n))))) r h = absurd (omega arith)

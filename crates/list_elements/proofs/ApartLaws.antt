@@ -3,7 +3,7 @@
 use mathlib.Core.Path.{_≡_, refl}
 use mathlib.Core.Bool.{Bool, true, false, _&&_, cond}
 use mathlib.Core.List.{List, [], _∷_, map}
-use Prim.Native.Nat.{ℕ, zero, suc, _+_, _*_, _<_, _≤_}
+use Prim.Native.Nat.{ℕ, zero, suc, _+_, _*_, _/_, _%_, _<_, _≤_}
 use native.Mathlib.Nat.{not-suc-le-zero, le-of-suc-le-suc, min-le-left}
 use native.Mathlib.Omega.{arith}
 use lib.Arith.{digits-div, digits-mod}
@@ -11,11 +11,11 @@ use lib.Dec.{leb, ltb}
 use lib.IntN.{ℤ, pos, natAbs}
 use lib.ListN.{length, getD, take, length-map, length-take, List·getD-map}
 use lib.Seq.{take-all}
-use borrow.Author.Tests.{leb-true, ltb-false}
+use borrow.Author.Tests.{leb-true, ltb-false, ne-eqb}
 use Rattle.buffer.specs.Characters.{allPrintable}
 use Rattle.buffer.proofs.Splicing.{length-part}
 use Rattle.number.specs.Limits.{largest, mostPlaces}
-use Rattle.list_elements.specs.Elements.{kindOf, valueOf, zeroValue, values, textBytes}
+use Rattle.list_elements.specs.Elements.{integer, decimal, logical, text, kindOf, valueOf, zeroValue, values, textBytes}
 use Rattle.list_elements.specs.Limits.{mostElements, longestText, withinLimits, firstFailing, overLimit, checkValues, checkList, wanted}
 use Rattle.list_elements.specs.Apart.{kindNumber, kindFrom, amount, detail, Apart}
 use Rattle.list_elements.specs.declared.Decimal.{Decimal}
@@ -34,6 +34,24 @@ kind-from (value.Integer n) = refl
 kind-from (value.Decimal d) = refl
 kind-from (value.Logical b) = refl
 kind-from (value.Text t) = rw (digits-mod (t .len) {m = 4} {r = 3} (omega arith), digits-div (t .len) {m = 4} {r = 3} (omega arith))
+
+-- and by its remainder
+module _ (k : ℕ) where
+  pub number-integer : k % 4 ≡ 0 → kindFrom k ≡ integer
+  unfolding kindFrom
+  number-integer e = rw e
+
+  pub number-decimal : k % 4 ≡ 1 → kindFrom k ≡ decimal
+  unfolding kindFrom
+  number-decimal e = rw e
+
+  pub number-logical : k % 4 ≡ 2 → kindFrom k ≡ logical
+  unfolding kindFrom
+  number-logical e = rw e
+
+  pub number-text : (k % 4 ≡ 0 → ⊥) → (k % 4 ≡ 1 → ⊥) → (k % 4 ≡ 2 → ⊥) → kindFrom k ≡ text (k / 4)
+  unfolding kindFrom
+  number-text a b c = rw (ne-eqb (k % 4) 0 a, ne-eqb (k % 4) 1 b, ne-eqb (k % 4) 2 c)
 
 kinds-of : (vs : List Value) → map kindFrom (map kindNumber vs) ≡ map kindOf vs
 kinds-of [] = refl

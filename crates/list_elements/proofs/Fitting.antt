@@ -28,11 +28,11 @@ module _ {v : Value} (t : Text) (is : v ≡ value.Text t) where
 
 -- ---- the length of a text, by the number of its kind
 
-text-length : (k : ℕ) → k % 4 ≡ 3 → textLength (kindFrom k) ≡ k / 4
+pub text-length : (k : ℕ) → k % 4 ≡ 3 → textLength (kindFrom k) ≡ k / 4
 unfolding kindFrom
 text-length k e = rw e
 
-other-length : (k : ℕ) → (k % 4 ≡ 3 → ⊥) → textLength (kindFrom k) ≡ 0
+pub other-length : (k : ℕ) → (k % 4 ≡ 3 → ⊥) → textLength (kindFrom k) ≡ 0
 unfolding kindFrom
 other-length k n = go (eqb (k % 4) 0) refl (eqb (k % 4) 1) refl (eqb (k % 4) 2) refl
   where
@@ -57,14 +57,12 @@ module _ {ks : List ℕ} {room left i : ℕ} (f : Fitting ks room left i) where
     unfolding textsLength
     next = rw (drop-cons ks i 0 h, add-one i)
 
-    pub fitting-text : getD ks i 0 % 4 ≡ 3 → getD ks i 0 / 4 ≤ left → Fitting ks room (left - getD ks i 0 / 4) (i + 1)
-    fitting-text e l = record { bound = omega arith; sum = omega (arith, f .sum, next, text-length (getD ks i 0) e) }
+    module _ {len : ℕ} (e : len ≡ textLength (kindFrom (getD ks i 0))) where
+      pub fitting-more : len ≤ left → Fitting ks room (left - len) (i + 1)
+      fitting-more l = record { bound = omega arith; sum = omega (arith, f .sum, next) }
 
-    pub fitting-other : (getD ks i 0 % 4 ≡ 3 → ⊥) → Fitting ks room left (i + 1)
-    fitting-other n = record { bound = omega arith; sum = omega (arith, f .sum, next, other-length (getD ks i 0) n) }
-
-    pub fitting-over : getD ks i 0 % 4 ≡ 3 → left < getD ks i 0 / 4 → false ≡ leb (textsLength (map kindFrom ks)) room
-    fitting-over e l = sym (lt-leb (textsLength (map kindFrom ks)) room (omega (arith, f .sum, next, text-length (getD ks i 0) e)))
+      pub fitting-over : left < len → false ≡ leb (textsLength (map kindFrom ks)) room
+      fitting-over l = sym (lt-leb (textsLength (map kindFrom ks)) room (omega (arith, f .sum, next)))
 
   pub fitting-all : length ks ≤ i → true ≡ leb (textsLength (map kindFrom ks)) room
   unfolding textsLength

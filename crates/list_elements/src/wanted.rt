@@ -12,7 +12,7 @@ ghost use mathlib.Core.List.{map};
 ghost use Prim.Native.Nat.{_≤_};
 ghost use lib.Dec.{leb};
 ghost use lib.ListN.{length, take};
-ghost use Rattle.list_elements.specs.Elements.{values};
+ghost use Rattle.list_elements.specs.Elements.{textLength, values};
 ghost use Rattle.list_elements.specs.Limits.{mostElements, wanted, wantedCheck, textsLength};
 ghost use Rattle.list_elements.specs.Apart.{kindNumber, kindFrom};
 
@@ -57,6 +57,16 @@ pub fn take_kinds(list: List, kinds: &mut [u64]) -> ListCheck
     ListCheck::Good
 }
 
+// The length of an element's text, by its kind; 0 of another kind.
+pub fn text_len(kind: u64) -> usize
+    ensures { λ r. ⌜ r ≡ textLength (kindFrom kind) ⌝ }
+{
+    if kind % KIND_BASE == KIND_TEXT {
+        return (kind / KIND_BASE) as usize;
+    }
+    0
+}
+
 // Whether the texts of these kinds have room, end to end, in so many bytes.
 pub fn texts_fit(kinds: &[u64], room: usize) -> bool
     ensures { λ r. ⌜ r ≡ leb (textsLength (map kindFrom (now (kinds .entry)))) room ⌝ }
@@ -64,16 +74,12 @@ pub fn texts_fit(kinds: &[u64], room: usize) -> bool
     let mut left = room;
     let mut i: usize = 0;
     while i < kinds.len() {
-        if kinds[i] % KIND_BASE == KIND_TEXT {
-            let len = (kinds[i] / KIND_BASE) as usize;
-            if left < len {
-                return false;
-            }
-            left -= len;
-            i += 1;
-        } else {
-            i += 1;
+        let len = text_len(kinds[i]);
+        if left < len {
+            return false;
         }
+        left -= len;
+        i += 1;
     }
     true
 }

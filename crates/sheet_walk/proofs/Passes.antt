@@ -3,7 +3,7 @@
 use mathlib.Core.Path.{_≡_, refl, ap, subst, _∙_}
 use mathlib.Core.Bool.{cond}
 use mathlib.Core.List.{List, [], _∷_, map}
-use Prim.Native.Nat.{ℕ, zero, suc, _<_}
+use Prim.Native.Nat.{ℕ, zero, suc, _+_, _*_, _<_, _≤_}
 use native.Mathlib.Omega.{arith}
 use lib.ListN.{length, drop, getD, length-map}
 use Rattle.format_grammar.specs.Met.{Met}
@@ -13,14 +13,16 @@ use Rattle.list_elements.specs.Elements.{Kind}
 use Rattle.list_elements.specs.Apart.{kindFrom}
 use Rattle.sheet_walk.specs.Steps.{What, element, literal, Placement, isField, start}
 use Rattle.sheet_walk.specs.Walk.{Sheet, walk}
-use Rattle.sheet_walk.specs.Promises.{Walkable}
+use Rattle.sheet_walk.specs.Laid.{offsetOf}
+use Rattle.sheet_walk.specs.Promises.{Walkable, Inside}
 use Rattle.sheet_walk.specs.Turns.{whatOf, Covering, WordCovers, Standing, Loaded, cursor, sheetOf, turnOf}
 use Rattle.sheet_walk.specs.declared.Records.{Records}
 use Rattle.sheet_walk.specs.declared.State.{State}
 use Rattle.sheet_walk.specs.declared.Cursor.{Cursor}
 use Rattle.sheet_walk.specs.declared.Turn.{Turn}
 use Rattle.sheet_walk.proofs.StepLaws.{fieldsOf, fieldsIn, CoveredBy, Covered}
-use Rattle.sheet_walk.proofs.Covering.{Stands, start-stands}
+use Rattle.sheet_walk.proofs.Covering.{Stands, start-stands, covered-inside}
+use Rattle.sheet_walk.proofs.Windows.{inside-room}
 use Rattle.sheet_walk.proofs.ItemLaws.{field-is, item-at, word-at}
 use Rattle.sheet_walk.proofs.TurnLaws.{walkAt}
 use Rattle.sheet_walk.proofs.Turned as turned
@@ -136,3 +138,17 @@ module _ (t ws : List ℕ) (back : ℕ) (ks : List ℕ) (rs : Records) (l : Load
               subst (λ x. Covering (map kindFrom ks) x (c .state .taken) (p .width)) word-is
               (covered-covering (theSheet .kinds) (turned.itemAt theSheet c) (c .state) (p .width) (p .what) (d .by));
         }
+
+    pub takes-is : n .taken ≡ c .state .taken + fieldsOf (metOf t (getD ws (c .index) 0))
+    takes-is = d .moved .takes ∙ ap (λ (x : Met). c .state .taken + fieldsOf x) word-is
+
+    -- the columns lie in the records, and are few
+    module _ (on : Stands theSheet (c .state)) where
+      columns-inside : Inside (rs .width) (rs .count) p
+      columns-inside = covered-inside theSheet (turned.itemAt theSheet c) (c .state) n p (rs .count) on d walkable (on .in-records walkable)
+
+      pub columns-room : offsetOf (rs .width) p + p .width ≤ rs .count * rs .width
+      columns-room = inside-room (rs .width) (rs .count) p columns-inside
+
+      pub columns-few : p .width < 256
+      columns-few = omega (arith, columns-inside .from, columns-inside .to, l .narrow)

@@ -70,7 +70,7 @@ module _ (h : Sheet) (back : ℕ) (returns-to : h .part ≡ drop back (h .items)
 
   -- what a turn says
   abbrev pub Turned : Cursor → Turn → Type 0
-  Turned c (turn.Goes n) = (walkAt h c ≡ walkAt h n) × Stands h (n .state) × less n c
+  Turned c (turn.Goes n) = (walkAt h c ≡ walkAt h n) × Stands h (n .state) × less n c × (n .state .taken ≡ c .state .taken)
   Turned c (turn.Covers a w n) =
       (p : Placement)
       × (walkAt h c ≡ put p (walkAt h n))
@@ -89,7 +89,7 @@ module _ (h : Sheet) (back : ℕ) (returns-to : h .part ≡ drop back (h .items)
         → walkAt h c ≡ after st (c .state) (λ n. walkAt h (cursor (c .index + 1) n))
         → Turned c (onwardAnswer (c .state) (c .index + 1) (stepAnswer (h .records .width) st))
     item-turned (moves n) l d e =
-        (e, moved-stands h (itemAt h c) (c .state) n on (λ w. within-at (h .items) (c .index) (w .items-within)) (d .0) (omega (arith, on .few)), item-less c n l (d .0 .takes))
+        (e, moved-stands h (itemAt h c) (c .state) n on (λ w. within-at (h .items) (c .index) (w .items-within)) (d .0) (omega (arith, on .few)), item-less c n l (d .0 .takes), omega (arith, d .0 .takes, d .1))
     item-turned (covers p n) l d e = (
       p,
       e,
@@ -110,7 +110,7 @@ module _ (h : Sheet) (back : ℕ) (returns-to : h .part ≡ drop back (h .items)
         → Turned c (onwardAnswer (c .state) back (stepAnswer (h .records .width) st))
     end-turned (moves n) l d e =
         let t : n .taken ≡ c .state .taken = omega (arith, d .0 .takes) in
-        (e, moved-stands h Met.slash (c .state) n on (λ w. tt) (d .0) (omega arith), end-less c n l t (d .2) (d .1))
+        (e, moved-stands h Met.slash (c .state) n on (λ w. tt) (d .0) (omega arith), end-less c n l t (d .2) (d .1), t)
     end-turned (covers p n) l d e = absurd d
     end-turned (refused why) l d e = e
     end-turned ends l d e = e

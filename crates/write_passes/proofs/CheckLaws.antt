@@ -1,19 +1,17 @@
 -- The checking pass: what holds at each turn.
 -- Assumes nothing.
-use mathlib.Core.Path.{_≡_, refl, ap, subst, _∙_}
+use mathlib.Core.Path.{_≡_, refl, subst}
 use mathlib.Core.Bool.{true, false}
 use mathlib.Core.List.{List, map}
 use Prim.Native.Nat.{ℕ, _<_}
-use native.Mathlib.Omega.{arith}
 use lib.IntN.{ℤ}
-use lib.ListN.{length, getD, length-map}
+use lib.ListN.{length, getD}
 use Rattle.format_grammar.specs.Met.{Met}
 use Rattle.format_words.specs.Words.{metOf}
-use Rattle.list_elements.specs.Elements.{Kind, kindOf}
 use Rattle.list_elements.specs.Apart.{kindFrom}
 use Rattle.list_elements.proofs.ApartLaws.{kinds-from}
 use Rattle.list_elements.specs.declared.Value.{Value}
-use Rattle.sheet_walk.specs.Steps.{What, element, literal, Placement}
+use Rattle.sheet_walk.specs.Steps.{literal, Placement}
 use Rattle.sheet_walk.specs.Walk.{Trace, put, walk}
 use Rattle.sheet_walk.specs.Turns.{whatOf, WordCovers, sheetOf}
 use Rattle.sheet_walk.specs.declared.Refusal.the-variants.{TooLarge}

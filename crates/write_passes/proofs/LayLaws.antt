@@ -3,7 +3,7 @@
 use mathlib.Core.Path.{_≡_, refl, sym, ap, _∙_}
 use mathlib.Core.Bool.{Bool, true, false, cond}
 use mathlib.Core.List.{List}
-use Prim.Native.Nat.{ℕ, zero, suc, _+_, _*_, _≤_}
+use Prim.Native.Nat.{ℕ, zero, suc, _+_, _≤_}
 use native.Mathlib.Omega.{arith}
 use lib.ListN.{length}
 use Rattle.buffer.specs.Splice.{splice}
@@ -12,14 +12,11 @@ use Rattle.list_elements.specs.declared.Value.{Value}
 use Rattle.sheet_walk.specs.Steps.{What, element, literal, Placement}
 use Rattle.sheet_walk.specs.Walk.{Sheet, Trace, put, done, stopped, walk}
 use Rattle.sheet_walk.specs.Laid.{offsetOf, laid}
-use Rattle.sheet_walk.specs.Promises.{Walkable, placeOf, elementsPut, numbersFrom}
+use Rattle.sheet_walk.specs.Promises.{placeOf, elementsPut, numbersFrom}
 use Rattle.sheet_walk.specs.Turns.{whatOf, sheetOf}
 use Rattle.sheet_walk.specs.declared.Records.{Records}
-use Rattle.sheet_walk.specs.declared.State.{State}
 use Rattle.sheet_walk.specs.declared.Cursor.{Cursor}
-use Rattle.sheet_walk.proofs.StepLaws.{Covered}
-use Rattle.sheet_walk.proofs.Covering.{Stands, covered-inside, puts-each}
-use Rattle.sheet_walk.proofs.Windows.{inside-room}
+use Rattle.sheet_walk.proofs.Covering.{Stands, puts-each}
 use Rattle.sheet_walk.proofs.TurnLaws.{walkAt}
 use Rattle.write_passes.specs.Placed.{fieldStarred, valueAt, charactersOf, characters, starredOf, starredIn, accepted, judged}
 use Rattle.write_passes.specs.Passes.{whatTooLarge}
@@ -85,9 +82,3 @@ module _ (R : ℕ) (area : List ℕ) (vs : List Value) (p : Placement) (rest : T
       go : (b : Bool) → whatTooLarge vs (whatOf x i) ≡ b → (whatTooLarge vs (whatOf x i) ≡ false) × (judged vs rest ≡ accepted n)
       go true g = let f = sym (put-large vs p rest x i e g) ∙ a in let z : _≡_ {A = ℕ} 0 1 = cc in absurd (omega arith)
       go false g = (g, sym (put-small vs p rest x i e g) ∙ a)
-
--- a placement lies in the buffer
-pub put-room : (h : Sheet) (x : Met) (s n : State) (p : Placement) → Walkable h → Stands h s → Covered (h .kinds) (h .records) x s p n
-    → offsetOf (h .records .width) p + p .width ≤ h .records .count * h .records .width
-put-room h x s n p w i d =
-    inside-room (h .records .width) (h .records .count) p (covered-inside h x s n p (h .records .count) i d w (i .in-records w))

@@ -1,26 +1,16 @@
 -- `write_passes::fields::put` meets its contract.
 -- Assumes nothing.
-use mathlib.Core.Path.{_≡_, refl, sym, _∙_}
-use mathlib.Core.Logic.{_⊎_, inl, inr}
-use native.Mathlib.Omega.{arith}
-use Prim.Native.Nat.{ℕ, zero, suc, _<_}
+use mathlib.Core.Path.{sym, _∙_}
+use Prim.Native.Nat.{_<_}
 use lib.IntN.{pos}
 use lib.ListN.{length, getD}
 use Rattle.format_words.specs.Words.{secondOf}
+use Rattle.format_words.proofs.WordKinds.{text-kind}
 use Rattle.write_passes.specs.Placed.{logicalOf, valueAt}
 use Rattle.write_passes.proofs.PutLaws.{I-amount, I-small, I-starred, I-characters, F-amount, F-detail, F-small, F-places, F-wanted, F-large, F-starred, F-characters, L-amount, L-some, L-is, L-starred, L-characters, text-put, literal-inside, literal-starred, literal-characters, as-bits, logical-bits, put-stars, put-bytes}
 use borrow.Author.Needs.{needs}
 use Rattle.write_passes.proofs.fields.put.Statement.{statement}
 use Rattle.write_passes.proofs.fields.put.Tie as tie
-
--- the kind of A or Aw
-text-kind : (n : ℕ) → ((Unit {0} × (n ≡ 0 → ⊥)) × (n ≡ 1 → ⊥)) × (n ≡ 2 → ⊥) → n < 5 → (n ≡ 3) ⊎ (n ≡ 4)
-text-kind zero r h = absurd (r .0 .0 .1 refl)
-text-kind (suc zero) r h = absurd (r .0 .1 refl)
-text-kind (suc (suc zero)) r h = absurd (r .1 refl)
-text-kind (suc (suc (suc zero))) r h = inl refl
-text-kind (suc (suc (suc (suc zero)))) r h = inr refl
-text-kind (suc (suc (suc (suc (suc n))))) r h = absurd (omega arith)
 
 mul-write-integer : tie.Need-mul-write-integer
 mul-write-integer c = let a = c .before .before .before .before .before .before .before in let h : a .args .i < length (a .args .amounts .now) = I-amount (a .pre .1 .placed .placeable) (c .before .match .keys1) in search needs

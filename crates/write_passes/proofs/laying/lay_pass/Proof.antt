@@ -23,7 +23,7 @@ use Rattle.sheet_walk.proofs.Passes as passes
 use Rattle.write_passes.specs.Placed.{charactersOf, characters, starredOf, starredIn, judged}
 use Rattle.write_passes.specs.Passes.{Passed, Placed}
 use Rattle.write_passes.proofs.CheckLaws.{in-words, what-is, placeable}
-use Rattle.write_passes.proofs.LayLaws.{few-starred, Laying, laid-more, stars-more, put-accepted, put-room}
+use Rattle.write_passes.proofs.LayLaws.{few-starred, Laying, laid-more, stars-more, put-accepted}
 use Rattle.write_passes.proofs.laying.lay_pass.Statement.{statement}
 use Rattle.write_passes.proofs.laying.lay_pass.Tie as tie
 
@@ -133,7 +133,7 @@ shared-slice-read-put : tie.Need-shared-slice-read-put Inv-loop μ-loop
 shared-slice-read-put c = let k = c .before .before .before .before .before .before in let a = start k in let q = a .pre .1 in let n = known k (turn.Covers _ _ _) (c .before .before .before .before .turn2 .given .1) (q .vs) (q .passed) in in-words (a .args .back) (q .passed .ready) (k .before .loop .c) (n .0) _ (n .4) (n .5)
 
 put-requires : tie.Need-put-requires Inv-loop μ-loop
-put-requires c κs = let k = c .before .before .before .before .before .before in let a = start k in let q = a .pre .1 in let n = known k (turn.Covers _ _ _) (c .before .before .before .before .turn2 .given .1) (q .vs) (q .passed) in let l = k .before .loop .inv .0 (q .vs) (q .passed) in let t = a .args .chars .now in let r = put-room (sheetOf t (a .args .words .now) (a .args .back) (a .args .kinds .now) (a .args .rs)) _ (k .before .loop .c .state) _ (n .0) (passes.walkable t (a .args .words .now) (a .args .back) (a .args .kinds .now) (a .args .rs) (q .passed .ready .loaded)) (l .stands) (n .5) in (omega (arith, r, n .6, n .7, a .pre .0, k .before .loop .inv .1), record { vs = q .vs; placed = placed k (c .before .before .before .before .turn2 .given .1) (q .vs) (q .passed) })
+put-requires c κs = let k = c .before .before .before .before .before .before in let a = start k in let q = a .pre .1 in let n = known k (turn.Covers _ _ _) (c .before .before .before .before .turn2 .given .1) (q .vs) (q .passed) in let l = k .before .loop .inv .0 (q .vs) (q .passed) in let t = a .args .chars .now in let r = passes.columns-room t (a .args .words .now) (a .args .back) (a .args .kinds .now) (a .args .rs) (q .passed .ready .loaded) (k .before .loop .c) (n .0) _ (n .4) (n .5) (l .stands) in (omega (arith, r, n .6, n .7, a .pre .0, k .before .loop .inv .1), record { vs = q .vs; placed = placed k (c .before .before .before .before .turn2 .given .1) (q .vs) (q .passed) })
 
 add-starred : tie.Need-add-starred Inv-loop μ-loop
 add-starred c = let k = c .before .before .before .before .before .before .before .before .before .before in let a = start k in let q = a .pre .1 in let l = k .before .loop .inv .0 (q .vs) (q .passed) in let h = sheetOf (a .args .chars .now) (a .args .words .now) (a .args .back) (a .args .kinds .now) (a .args .rs) in let f = few-starred h (q .vs) (q .passed .n) (q .passed .accepts) in let e : length (map kindFrom (a .args .kinds .now)) ≡ length (a .args .kinds .now) = length-map (a .args .kinds .now) kindFrom in omega (arith, f, e, l .stars, q .passed .ready .loaded .few)
