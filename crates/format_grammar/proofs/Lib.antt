@@ -16,3 +16,4 @@ pub mod NumberOrder
 pub mod MetLaws
 pub mod MetRanges
 pub mod Promises
+pub mod Answering

@@ -27,37 +27,9 @@ use Rattle.sheet_walk.specs.Steps.{isInteger, isDecimal, isLogical, isText, sui
 use Rattle.sheet_walk.specs.Turns.{whatOf, Covering, WordCovers}
 use Rattle.read_passes.specs.Given.{gives, integerGiven, decimalGiven, logicalGiven, textGiven, fieldGives, kindAt}
 use Rattle.read_passes.specs.Passes.{HeldAs, numberTaken, logicalTaken, GivenAs, TakenAs}
+use Rattle.read_passes.proofs.GivenLaws.{is-integer, is-decimal, is-logical, is-text}
 use Rattle.read_passes.specs.declared.Taken.{Taken}
 use Rattle.read_passes.specs.declared.Taken.the-variants.{Element, Nothing, Literal}
-
--- ---- the kind that a field takes
-
-no-way : {P : Type 0} → false ≡ true → P
-no-way e = let z : _≡_ {A = ℕ} 0 1 = cc in absurd (omega arith)
-
-the-integer : (k : Kind) → isInteger k ≡ true → k ≡ integer
-the-integer integer e = refl
-the-integer decimal e = no-way e
-the-integer logical e = no-way e
-the-integer (text m) e = no-way e
-
-the-decimal : (k : Kind) → isDecimal k ≡ true → k ≡ decimal
-the-decimal integer e = no-way e
-the-decimal decimal e = refl
-the-decimal logical e = no-way e
-the-decimal (text m) e = no-way e
-
-the-logical : (k : Kind) → isLogical k ≡ true → k ≡ logical
-the-logical integer e = no-way e
-the-logical decimal e = no-way e
-the-logical logical e = refl
-the-logical (text m) e = no-way e
-
-the-text : (k : Kind) → isText k ≡ true → k ≡ text (textLength k)
-the-text integer e = no-way e
-the-text decimal e = no-way e
-the-text logical e = no-way e
-the-text (text m) e = refl
 
 -- ---- one field
 
@@ -112,29 +84,29 @@ module _ {t : List ℕ} {kinds : List Kind} {word i w : ℕ} (p : WordCovers t k
   unfolding fieldGives
   I-taken k =
       let e = is-I t word k in
-      of-field (Field.I (firstOf word)) e (numberTaken (readField Numeric.I part)) (given-integer records (kindAt kinds i) (the-integer (kindAt kinds i) (suited (Field.I (firstOf word)) e)) (readField Numeric.I part))
+      of-field (Field.I (firstOf word)) e (numberTaken (readField Numeric.I part)) (given-integer records (kindAt kinds i) (sym (is-integer (kindAt kinds i) (suited (Field.I (firstOf word)) e))) (readField Numeric.I part))
 
   pub F-taken : kindOf word ≡ 1 → Gives (numberTaken (readField (Numeric.F (secondOf word)) part))
   unfolding fieldGives
   F-taken k =
       let e = is-F t word k in
       let f = Field.F (firstOf word) (secondOf word) in
-      of-field f e (numberTaken (readField (Numeric.F (secondOf word)) part)) (given-decimal records (kindAt kinds i) (the-decimal (kindAt kinds i) (suited f e)) (readField (Numeric.F (secondOf word)) part))
+      of-field f e (numberTaken (readField (Numeric.F (secondOf word)) part)) (given-decimal records (kindAt kinds i) (sym (is-decimal (kindAt kinds i) (suited f e))) (readField (Numeric.F (secondOf word)) part))
 
   pub L-taken : kindOf word ≡ 2 → Gives (logicalTaken (logicalRead part))
   unfolding fieldGives
   L-taken k =
       let e = is-L t word k in
-      of-field (Field.L (firstOf word)) e (logicalTaken (logicalRead part)) (given-logical records (kindAt kinds i) (the-logical (kindAt kinds i) (suited (Field.L (firstOf word)) e)) (logicalRead part))
+      of-field (Field.L (firstOf word)) e (logicalTaken (logicalRead part)) (given-logical records (kindAt kinds i) (sym (is-logical (kindAt kinds i) (suited (Field.L (firstOf word)) e))) (logicalRead part))
 
   pub A-taken : (kindOf word ≡ 3) ⊎ (kindOf word ≡ 4) → at + w ≤ length records → w < 256 → Gives (cond (allPrintable part) (Element (pos w) at) Nothing)
   unfolding fieldGives
   A-taken (inl k) room narrow =
       let e = is-A t word k in
-      of-field Field.A e (cond (allPrintable part) (Element (pos w) at) Nothing) (given-text records (kindAt kinds i) at w (the-text (kindAt kinds i) (suited Field.A e)) room narrow)
+      of-field Field.A e (cond (allPrintable part) (Element (pos w) at) Nothing) (given-text records (kindAt kinds i) at w (sym (is-text (kindAt kinds i) (suited Field.A e))) room narrow)
   A-taken (inr k) room narrow =
       let e = is-Aw t word k in
-      of-field (Field.Aw (firstOf word)) e (cond (allPrintable part) (Element (pos w) at) Nothing) (given-text records (kindAt kinds i) at w (the-text (kindAt kinds i) (suited (Field.Aw (firstOf word)) e)) room narrow)
+      of-field (Field.Aw (firstOf word)) e (cond (allPrintable part) (Element (pos w) at) Nothing) (given-text records (kindAt kinds i) at w (sym (is-text (kindAt kinds i) (suited (Field.Aw (firstOf word)) e))) room narrow)
 
   -- no other item covers columns but a literal
   covering : (kindOf word ≡ 5 → ⊥) × (kindOf word ≡ 6 → ⊥) × (kindOf word ≡ 7 → ⊥)

@@ -1,0 +1,4 @@
+pub mod Calls
+pub mod Answering
+pub mod Accepted
+pub mod Promises

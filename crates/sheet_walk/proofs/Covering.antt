@@ -207,6 +207,12 @@ puts-remaining h =
 pub puts-each : PutsEach
 puts-each h n m = puts-remaining h n m ∙ ap (numbersFrom 0) (omega arith)
 
+-- as many as there are
+pub length-numbers : (i n : ℕ) → length (numbersFrom i n) ≡ n
+unfolding numbersFrom
+length-numbers i zero = refl
+length-numbers i (suc n) = ap suc (length-numbers (i + 1) n)
+
 -- ---- refusals
 
 stops-put : {why : Refusal} {p : Placement} {t : Trace} → StopsWith why (put p t) → StopsWith why t

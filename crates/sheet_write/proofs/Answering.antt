@@ -14,8 +14,8 @@ use Rattle.number.proofs.RoundingLaws.{rounded-is}
 use Rattle.format_grammar.specs.Items.{Field, Items}
 use Rattle.format_grammar.specs.Check as formats
 use Rattle.format_grammar.specs.Promises.{Acceptable, Answers}
-use Rattle.format_grammar.specs.Promises as formatted
 use Rattle.format_grammar.proofs.Promises as grammar
+use Rattle.format_grammar.proofs.Answering.{answered-only}
 use Rattle.list_elements.specs.Limits.{listCheck}
 use Rattle.list_elements.specs.declared.Decimal.{Decimal}
 use Rattle.list_elements.specs.declared.Value.{Value}
@@ -113,17 +113,7 @@ module _ (c : Call) where
   answers-as : {w : Writing} → becomes c ≡ w → AnswersSo (answerNumber (answerOf (valuesOf c) w)) (answerPlace (answerOf (valuesOf c) w))
   answers-as e = (ap (λ w. answerNumber (answerOf (valuesOf c) w)) e, ap (λ w. answerPlace (answerOf (valuesOf c) w)) e)
 
--- a row of the format check that is met answers there
-format-only : (s : List ℕ) {k p : ℕ} → formatted.AnsweredBy s k p → Answers s k p
-format-only s (formatted.AnsweredBy.acceptable {xs} h) =
-    let e = grammar.accepts-exactly s xs .1 h in
-    record { number-is = ap formats.outcomeNumber e; place-is = ap formats.outcomePlace e }
-format-only s (formatted.AnsweredBy.too-long {p} h) = grammar.length-refused s p .1 h
-format-only s (formatted.AnsweredBy.not-grammatical {p} h) = grammar.grammar-refused s p .1 h
-format-only s (formatted.AnsweredBy.out-of-range {p} h) = grammar.range-refused s p .1 h
-format-only s (formatted.AnsweredBy.too-large {p} h) = grammar.size-refused s p .1 h
-
--- and so it does for the call
+-- a row of the format check that is met answers for the call
 format-refuses : (c : Call) (k p : ℕ) → WidthRight c → (k ≡ 0 → ⊥) → Answers (c .format) k p → AnswersSo c k p
 format-refuses c k p w ne a = go (formats.outcome (c .format)) refl
   where
@@ -138,7 +128,7 @@ format-refuses c k p w ne a = go (formats.outcome (c .format)) refl
 pub meets-only : (c : Call) {k p : ℕ} → AnsweredBy c k p → AnswersSo c k p
 meets-only c (AnsweredBy.acceptable {t} {n} a) = answers-as c (passes c t n a)
 meets-only c (AnsweredBy.wrong-width h) = answers-as c (width-refuses c h)
-meets-only c (AnsweredBy.wrong-format {k} {p} w ne a) = format-refuses c k p w ne (format-only (c .format) a)
+meets-only c (AnsweredBy.wrong-format {k} {p} w ne a) = format-refuses c k p w ne (answered-only (c .format) a)
 meets-only c (AnsweredBy.bad-element {xs} {p} w f e) = answers-as c (past-format c xs w f (Bad p) e)
 meets-only c (AnsweredBy.no-record {xs} w f g e) =
     let b : becomes c ≡ refuses NoRecord = past-format c xs w f Good g ∙ rw (eq-eqb (length (c .buffer) / c .R) 0 e) in

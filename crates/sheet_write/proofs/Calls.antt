@@ -11,10 +11,9 @@ use Rattle.format_grammar.specs.Items.{Items}
 use Rattle.format_grammar.specs.Check as formats
 use Rattle.format_grammar.specs.Promises.{Acceptable}
 use Rattle.format_grammar.specs.Promises as formatted
-use Rattle.format_grammar.specs.declared.FormatRefusal.{FormatRefusal}
-use Rattle.format_grammar.specs.declared.FormatRefusal.the-variants.{Length, Grammar, Range, Size}
 use Rattle.format_grammar.proofs.Cases.{and-true}
 use Rattle.format_grammar.proofs.Promises as grammar
+use Rattle.format_grammar.proofs.Answering.{numbered}
 use Rattle.list_elements.specs.Limits.{listCheck}
 use Rattle.list_elements.specs.declared.ListCheck.{ListCheck}
 use Rattle.list_elements.specs.declared.ListCheck.the-variants.{Good, Bad}
@@ -54,13 +53,6 @@ came-buffer c xs w f g = go (eqb (length (c .buffer) / c .R) 0) refl
 came-list : (c : Call) (xs : Items) → WidthRight c → Acceptable (c .format) xs → (k : ListCheck) → listCheck (c .area) (c .list) ≡ k → Came c (checkList (c .R) xs k (valuesOf c) (length (c .buffer)))
 came-list c xs w f Good e = came-buffer c xs w f e
 came-list c xs w f (Bad p) e = Came.refused (AnsweredBy.bad-element w f e)
-
--- a format's refusal has a number
-numbered : (why : FormatRefusal) → formats.refusalNumber why ≡ 0 → ⊥
-numbered Length e = omega arith
-numbered (Grammar p) e = omega arith
-numbered (Range p) e = omega arith
-numbered Size e = omega arith
 
 came-format : (c : Call) → WidthRight c → (o : formats.Outcome) → formats.outcome (c .format) ≡ o → Came c (checkFormat (c .R) o (listCheck (c .area) (c .list)) (valuesOf c) (length (c .buffer)))
 came-format c w (formats.accepted xs) e = came-list c xs w (grammar.accepts-exactly (c .format) xs .0 e) (listCheck (c .area) (c .list)) refl

@@ -13,6 +13,7 @@ use Rattle.number.specs.Rounding.{Nearest, roundedUnits, tooLarge}
 use Rattle.number.proofs.RoundingLaws.{nearest-up, rounded-is}
 use Rattle.field_written.proofs.Promises.{small-units}
 use Rattle.format_grammar.specs.Items.{Field}
+use Rattle.format_grammar.proofs.Cases.{no-way}
 use Rattle.list_elements.specs.declared.Decimal.{Decimal}
 use Rattle.list_elements.specs.declared.Value.{Value}
 use Rattle.list_elements.specs.declared.Value.the-variants as value
@@ -24,7 +25,6 @@ use Rattle.sheet_walk.specs.declared.Refusal.{Refusal}
 use Rattle.sheet_walk.specs.declared.Refusal.the-variants.{TooLarge}
 use Rattle.sheet_walk.proofs.Covering.{in-put, in-done, in-stopped}
 use Rattle.write_passes.specs.Placed.{valueAt, fieldTooLarge, Judged, accepted, refused, judgedAt, judged}
-use Rattle.write_passes.proofs.ValueLaws.{no-way}
 use Rattle.sheet_write.specs.Promises.{RoundsWithin, TooLargeAt}
 
 -- ---- one value

@@ -15,6 +15,7 @@ use Rattle.field_written.specs.Numeral.{Numeric, plain, standsFor}
 use Rattle.field_written.specs.Written.{field}
 use Rattle.field_written.proofs.Promises as fields
 use Rattle.format_grammar.specs.Items.{Field}
+use Rattle.format_grammar.proofs.Cases.{no-way}
 use Rattle.list_elements.specs.Elements.{Kind, integer, kindOf, zeroValue}
 use Rattle.list_elements.specs.declared.Decimal.{Decimal}
 use Rattle.list_elements.specs.declared.Value.{Value}
@@ -24,7 +25,6 @@ use Rattle.sheet_walk.specs.Walk.{Trace, put, done, stopped}
 use Rattle.sheet_walk.specs.Columns.{In, here, there}
 use Rattle.sheet_walk.specs.Promises.{Suited}
 use Rattle.write_passes.specs.Placed.{integerOf, decimalOf, valueAt, fieldCharacters, fieldStarred, starredOf, isStarred, starredIn}
-use Rattle.write_passes.proofs.ValueLaws.{no-way}
 use Rattle.sheet_write.specs.Promises.{numeric, NoNumeral, Shows, Unrepresentable, Counted}
 
 -- ---- one field of a value that suits it

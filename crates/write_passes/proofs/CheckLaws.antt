@@ -7,6 +7,7 @@ use Prim.Native.Nat.{ℕ, _<_}
 use lib.IntN.{ℤ}
 use lib.ListN.{length, getD}
 use Rattle.format_grammar.specs.Met.{Met}
+use Rattle.format_grammar.proofs.Cases.{no-way}
 use Rattle.format_words.specs.Words.{metOf}
 use Rattle.list_elements.specs.Apart.{kindFrom}
 use Rattle.list_elements.proofs.ApartLaws.{kinds-from}
@@ -25,7 +26,6 @@ use Rattle.sheet_walk.proofs.Turned.{itemAt}
 use Rattle.sheet_walk.proofs.Passes as passes
 use Rattle.write_passes.specs.Placed.{Judged, refused, judgedAt, judged}
 use Rattle.write_passes.specs.Passes.{whatTooLarge, Placeable, Ready}
-use Rattle.write_passes.proofs.ValueLaws.{no-way}
 
 -- ---- a placement of the walk, of a good list
 

@@ -3,7 +3,7 @@
 use mathlib.Core.Path.{_≡_, refl, sym, ap, _∙_}
 use mathlib.Core.Bool.{Bool, true, false, cond}
 use mathlib.Core.List.{List}
-use Prim.Native.Nat.{ℕ, zero, suc, _+_, _≤_}
+use Prim.Native.Nat.{ℕ, suc, _+_, _≤_}
 use native.Mathlib.Omega.{arith}
 use lib.ListN.{length}
 use Rattle.buffer.specs.Splice.{splice}
@@ -12,11 +12,11 @@ use Rattle.list_elements.specs.declared.Value.{Value}
 use Rattle.sheet_walk.specs.Steps.{What, element, literal, Placement}
 use Rattle.sheet_walk.specs.Walk.{Sheet, Trace, put, done, stopped, walk}
 use Rattle.sheet_walk.specs.Laid.{offsetOf, laid}
-use Rattle.sheet_walk.specs.Promises.{placeOf, elementsPut, numbersFrom}
+use Rattle.sheet_walk.specs.Promises.{placeOf, elementsPut}
 use Rattle.sheet_walk.specs.Turns.{whatOf, sheetOf}
 use Rattle.sheet_walk.specs.declared.Records.{Records}
 use Rattle.sheet_walk.specs.declared.Cursor.{Cursor}
-use Rattle.sheet_walk.proofs.Covering.{Stands, puts-each}
+use Rattle.sheet_walk.proofs.Covering.{Stands, puts-each, length-numbers}
 use Rattle.sheet_walk.proofs.TurnLaws.{walkAt}
 use Rattle.write_passes.specs.Placed.{fieldStarred, valueAt, charactersOf, characters, starredOf, starredIn, accepted, judged}
 use Rattle.write_passes.specs.Passes.{whatTooLarge}
@@ -38,11 +38,6 @@ unfolding starredIn elementsPut
 starred-elements vs (put p t) = let h = starred-elements vs t in omega (arith, field-counts vs (p .width) (p .what) (elementsPut t))
 starred-elements vs (done n) = omega arith
 starred-elements vs (stopped why) = omega arith
-
-length-numbers : (i n : ℕ) → length (numbersFrom i n) ≡ n
-unfolding numbersFrom
-length-numbers i zero = refl
-length-numbers i (suc n) = ap suc (length-numbers (i + 1) n)
 
 pub few-starred : (h : Sheet) (vs : List Value) (n : ℕ) → judged vs (walk h) ≡ accepted n → starredIn vs (walk h) ≤ length (h .kinds)
 few-starred h vs n a =

@@ -1,13 +1,14 @@
 -- The data of a value whose kind suits a field, from the numbers of a list taken apart.
 -- Assumes nothing.
 use mathlib.Core.Path.{_≡_, refl}
-use mathlib.Core.Bool.{true, false, cond}
+use mathlib.Core.Bool.{true, cond}
 use mathlib.Core.List.{List}
 use Prim.Native.Nat.{ℕ, _+_, _/_, _≤_}
 use native.Mathlib.Omega.{arith}
 use lib.IntN.{pos, natAbs}
 use lib.ListN.{length}
 use Rattle.number.specs.Limits.{largest, mostPlaces}
+use Rattle.format_grammar.proofs.Cases.{no-way}
 use Rattle.list_elements.specs.Elements.{kindOf}
 use Rattle.list_elements.specs.Limits.{withinLimits}
 use Rattle.list_elements.specs.Apart.{kindNumber, amount, detail}
@@ -16,10 +17,6 @@ use Rattle.list_elements.specs.declared.Value.{Value}
 use Rattle.list_elements.specs.declared.Value.the-variants.{Integer, Decimal, Logical, Text}
 use Rattle.sheet_walk.specs.Steps.{isInteger, isDecimal, isLogical, isText}
 use Rattle.write_passes.specs.Placed.{integerOf, decimalOf, logicalOf, spanOf}
-
--- a test that fails does not hold
-pub no-way : {P : Type 0} → false ≡ true → P
-no-way e = let z : _≡_ {A = ℕ} 0 1 = cc in absurd (omega arith)
 
 module _ (area : List ℕ) where
   pub integer-data : (v : Value) → isInteger (kindOf v) ≡ true → withinLimits area v ≡ true → (amount v ≡ integerOf v) × (natAbs (amount v) ≤ largest)
