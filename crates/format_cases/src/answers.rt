@@ -1,18 +1,16 @@
 // The answers of the format check.
+use case_lines::shown::show_line_end;
+use case_lines::shown::show_refused;
 use format_check::FormatCheck;
+use format_check::refusal::number_of;
+use format_check::refusal::place_of;
 use format_grammar::FormatRefusal;
 use libc::STDOUT_FILENO;
 
 // A refusal's number and place.
 fn show_refusal(refusal: FormatRefusal) {
-    io::write_all(STDOUT_FILENO, b"refused ");
-    io::print_decimal(STDOUT_FILENO, format_check::refusal::number_of(refusal));
-    io::write_all(STDOUT_FILENO, b" ");
-    io::print_decimal(
-        STDOUT_FILENO,
-        format_check::refusal::place_of(refusal) as u64,
-    );
-    io::write_all(STDOUT_FILENO, b"\n");
+    show_refused(number_of(refusal), place_of(refusal));
+    show_line_end();
 }
 
 pub fn show_check(format: &[u8]) {

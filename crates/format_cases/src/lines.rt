@@ -1,23 +1,7 @@
-// The lines of a text.
+// The cases of a text.
 use crate::answers::show_check;
 use crate::runs::show_run;
-ghost use Prim.Native.Nat.{_≤_};
-ghost use lib.ListN.{length};
-
-// The offset at which the line from `from` on ends.
-fn line_end(text: &[u8], from: usize) -> usize
-    requires { ⌜ from ≤ length (now text) ⌝ }
-    ensures { λ r. ⌜ (from ≤ r) × (r ≤ length (now (text .entry))) ⌝ }
-{
-    let mut i = from;
-    while i < text.len() {
-        if text[i] == b'\n' {
-            return i;
-        }
-        i += 1;
-    }
-    i
-}
+use case_lines::lines::line_end;
 
 // One case.
 fn show_line(line: &[u8]) {

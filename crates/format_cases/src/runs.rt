@@ -1,4 +1,5 @@
 // The items met.
+use case_lines::shown::lettered;
 use format_check::ItemsChecked;
 use format_check::items::check_items;
 use format_grammar::LEVELS;
@@ -18,12 +19,6 @@ use libc::STDOUT_FILENO;
 ghost use mathlib.Core.Path.{_≡_};
 ghost use Prim.Native.Nat.{_≤_};
 ghost use lib.ListN.{length};
-
-// A number after some letters.
-fn lettered(letters: &[u8], n: u64) {
-    io::write_all(STDOUT_FILENO, letters);
-    io::print_decimal(STDOUT_FILENO, n);
-}
 
 // A literal's characters.
 fn show_literal(chars: &[u8], start: usize, count: usize) {

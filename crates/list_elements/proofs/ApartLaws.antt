@@ -1,6 +1,6 @@
 -- Laws of a list taken apart, and of one that is within its limits.
 -- Assumes nothing.
-use mathlib.Core.Path.{_≡_, refl}
+use mathlib.Core.Path.{_≡_, refl, sym, _∙_}
 use mathlib.Core.Bool.{Bool, true, false, _&&_, cond}
 use mathlib.Core.List.{List, [], _∷_, map}
 use Prim.Native.Nat.{ℕ, zero, suc, _+_, _*_, _/_, _%_, _<_, _≤_}
@@ -17,7 +17,7 @@ use Rattle.buffer.proofs.Splicing.{length-part}
 use Rattle.number.specs.Limits.{largest, mostPlaces}
 use Rattle.list_elements.specs.Elements.{integer, decimal, logical, text, kindOf, valueOf, zeroValue, values, textBytes}
 use Rattle.list_elements.specs.Limits.{mostElements, longestText, withinLimits, firstFailing, overLimit, checkValues, checkList, wanted}
-use Rattle.list_elements.specs.Apart.{kindNumber, kindFrom, amount, detail, Apart}
+use Rattle.list_elements.specs.Apart.{kindNumber, kindFrom, amount, detail, Apart, usableCount}
 use Rattle.list_elements.specs.declared.Decimal.{Decimal}
 use Rattle.list_elements.specs.declared.Text.{Text}
 use Rattle.list_elements.specs.declared.Value.{Value}
@@ -53,7 +53,7 @@ module _ (k : ℕ) where
   unfolding kindFrom
   number-text a b c = rw (ne-eqb (k % 4) 0 a, ne-eqb (k % 4) 1 b, ne-eqb (k % 4) 2 c)
 
-kinds-of : (vs : List Value) → map kindFrom (map kindNumber vs) ≡ map kindOf vs
+pub kinds-of : (vs : List Value) → map kindFrom (map kindNumber vs) ≡ map kindOf vs
 kinds-of [] = refl
 kinds-of (v ∷ vs) = rw (kind-from v, kinds-of vs)
 
@@ -178,3 +178,11 @@ check-good test l e =
     let w = over-good mostElements (l .count) (firstFailing test 0 (take mostElements (values l))) e in
     let h : length (values l) ≤ mostElements = omega (arith, values-most l) in
     (rw (take-all mostElements (values l) h) at (w .0), w .1)
+
+-- so many elements are used
+pub usable-few : (test : Value → Bool) (l : carried.List) (check : ListCheck) → check ≡ checkList test l → usableCount check (l .count) ≤ mostElements
+usable-few test l check is = go check refl
+  where
+    go : (k : ListCheck) → check ≡ k → usableCount k (l .count) ≤ mostElements
+    go Good e = check-good test l (sym is ∙ e) .1
+    go (Bad p) e = omega arith

@@ -1,0 +1,5 @@
+pub mod FieldBack
+pub mod Gathering
+pub mod Placed
+pub mod Rows
+pub mod DemandThree

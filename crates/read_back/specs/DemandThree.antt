@@ -11,7 +11,6 @@ use Rattle.format_grammar.specs.Items.{Field}
 use Rattle.list_elements.specs.Elements.{kindOf}
 use Rattle.list_elements.specs.Limits.{textsLength}
 use Rattle.list_elements.specs.Contents.{Content, contentOf}
-use Rattle.list_elements.specs.declared.Value.{Value}
 use Rattle.sheet_walk.specs.Steps.{What, element, literal, Placement}
 use Rattle.sheet_walk.specs.Walk.{Trace, put, done, stopped}
 use Rattle.sheet_walk.specs.Columns.{In, CoveredTwice}

@@ -2,7 +2,7 @@
 -- Assumes nothing.
 use mathlib.Core.Path.{_≡_, refl, sym, ap, subst, _∙_}
 use mathlib.Core.List.{List, [], _∷_, _++_, map, append-assoc, append-nil}
-use Prim.Native.Nat.{ℕ, _+_, _<_}
+use Prim.Native.Nat.{_≤_, ℕ, _+_, _<_}
 use native.Mathlib.Decide.{decLt}
 use native.Mathlib.Omega.{arith}
 use lib.IntN.{ℤ, pos}
@@ -230,7 +230,7 @@ module _ {t ws : List ℕ} (back : ℕ) {ks : List ℕ} {rs : Records} (l : Load
         pub in-kinds : place < length ks
         in-kinds = let m : length (map kindFrom ks) ≡ length ks = length-map ks kindFrom in omega (arith, taken-element .2)
 
-        pub takes-element : length ms ≡ length ks → length ds ≡ length ks → Gathering t ws back ks rs records (set ms place v) (set ds place d) n
+        pub takes-element : length ks ≤ length ms → length ks ≤ length ds → Gathering t ws back ks rs records (set ms place v) (set ds place d) n
         takes-element lm ld =
             let q = taken-element in
             let c = q .0 .0 in

@@ -23,7 +23,7 @@ use Rattle.format_words.specs.Words.{kindOf, firstOf, secondOf, metOf}
 use Rattle.format_words.proofs.WordKinds.{is-I, is-F, is-L, is-A, is-Aw, is-X, is-T, is-slash, is-literal}
 use Rattle.list_elements.specs.Elements.{Kind, integer, decimal, logical, text, textLength}
 use Rattle.list_elements.specs.Contents as content
-use Rattle.sheet_walk.specs.Steps.{isInteger, isDecimal, isLogical, isText, suits}
+use Rattle.sheet_walk.specs.Steps.{suits}
 use Rattle.sheet_walk.specs.Turns.{whatOf, Covering, WordCovers}
 use Rattle.read_passes.specs.Given.{gives, integerGiven, decimalGiven, logicalGiven, textGiven, fieldGives, kindAt}
 use Rattle.read_passes.specs.Passes.{HeldAs, numberTaken, logicalTaken, GivenAs, TakenAs}

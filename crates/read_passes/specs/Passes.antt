@@ -103,8 +103,8 @@ Contents = List Content
 pub record Held (records kinds : List ℕ) (amounts : List ℤ) (details : List ℕ) (room : ℕ) (cs : List Content) : Type 0 where
   pub many : length cs ≡ length kinds
   pub few : length kinds ≤ mostElements
-  pub amounts-long : length amounts ≡ length kinds
-  pub details-long : length details ≡ length kinds
+  pub amounts-long : length kinds ≤ length amounts
+  pub details-long : length kinds ≤ length details
   pub fits : textsLength (map kindFrom kinds) ≤ room
   pub each : HeldSoFar records (map kindFrom kinds) amounts details cs
 

@@ -11,11 +11,10 @@ use sheet_walk::turns::first_cursor;
 ghost use mathlib.Core.List.{List};
 ghost use Prim.Native.Nat.{ℕ, _*_, _≤_};
 ghost use lib.ListN.{length};
-ghost use mathlib.Core.Path.{_≡_};
 ghost use Rattle.sheet_walk.specs.Turns.{Loaded};
 ghost use Rattle.read_passes.specs.Passes.{SomeLoaded, Read};
 
-// The amounts and details of the elements, as many as there are kinds.
+// The amounts and details of the elements, at least as many as there are kinds.
 pub fn read_pass(
     words: &[u64],
     back: usize,
@@ -25,7 +24,7 @@ pub fn read_pass(
     amounts: &mut [i64],
     details: &mut [usize],
 ) -> Ending
-    requires { ⌜ SomeLoaded (now words) (now kinds) rs × (rs .count * rs .width ≤ length (now records)) × (length (now amounts) ≡ length (now kinds)) × (length (now details) ≡ length (now kinds)) ⌝ }
+    requires { ⌜ SomeLoaded (now words) (now kinds) rs × (rs .count * rs .width ≤ length (now records)) × (length (now kinds) ≤ length (now amounts)) × (length (now kinds) ≤ length (now details)) ⌝ }
     ensures { λ r. ⌜ ((t : List ℕ) → Loaded t (now (words .entry)) (now (kinds .entry)) rs → Read t (now (words .entry)) back (now (kinds .entry)) rs (now (records .entry)) r (now (amounts .exit)) (now (details .exit))) ⌝ }
 {
     let part = has_field(words, back);

@@ -1,23 +1,14 @@
 // The cases of a text.
-use crate::answers::MARK;
 use crate::answers::show_answer;
-use crate::elements::read_list;
-use crate::lines::after;
-use crate::lines::line_end;
-use crate::numbers::least;
-use crate::numbers::pair_at;
+use case_lines::marks::front;
+use case_lines::marks::marks;
+use case_lines::numbers::pair_at;
+use case_lines::sheets::part;
+use case_lines::sheets::sheet_at;
 use list_elements::List;
 use sheet_write::write::write;
 ghost use Prim.Native.Nat.{_≤_, _<_};
-ghost use mathlib.Core.Path.{_≡_};
 ghost use lib.ListN.{length};
-
-// Room for the largest buffer.
-fn marks() -> [u8; 4096]
-    ensures { λ r. ⌜ 4096 ≡ length r ⌝ }
-{
-    [MARK; 4096]
-}
 
 // Writes one sheet into a buffer full of marks, and shows the answer.
 fn show_written(width: usize, format: &[u8], list: List, area: &[u8], buffer: &mut [u8]) {
@@ -28,8 +19,7 @@ fn show_written(width: usize, format: &[u8], list: List, area: &[u8], buffer: &m
 // The same for a buffer of `room` bytes.
 fn show_sheet(width: usize, room: usize, format: &[u8], list: List, area: &[u8]) {
     let mut space = marks();
-    let size = least(room, 4096);
-    show_written(width, format, list, area, &mut space[..size]);
+    show_written(width, format, list, area, front(&mut space, room));
 }
 
 // The case at `from`; answers where the next one begins.
@@ -37,22 +27,19 @@ fn one_case(text: &[u8], from: usize) -> usize
     requires { ⌜ from < length (now text) ⌝ }
     ensures { λ r. ⌜ (from < r) × (r ≤ length (now (text .entry))) ⌝ }
 {
-    let head_end = line_end(text, from);
-    let format = after(text, head_end);
-    let format_end = line_end(text, format);
-    let area = after(text, format_end);
-    let area_end = line_end(text, area);
-    let elements = after(text, area_end);
-    let sizes = pair_at(&text[from..head_end], 0);
-    let listed = read_list(text, elements);
+    let sheet = sheet_at(text, from);
+    let head = sheet.head;
+    let format = sheet.format;
+    let area = sheet.bytes;
+    let sizes = pair_at(part(text, head), 0);
     show_sheet(
         sizes.first,
         sizes.second,
-        &text[format..format_end],
-        listed.list,
-        &text[area..area_end],
+        part(text, format),
+        sheet.list,
+        part(text, area),
     );
-    listed.next
+    sheet.next
 }
 
 pub fn each_case(text: &[u8]) {

@@ -4,9 +4,6 @@
 // written: the answer and the whole buffer; or the refusal's number and place, and whether the buffer was changed.
 mod answers;
 mod cases;
-mod elements;
-mod lines;
-mod numbers;
 
 use libc::STDIN_FILENO;
 

@@ -2,3 +2,5 @@ pub mod Calls
 pub mod Answering
 pub mod Accepted
 pub mod Promises
+pub mod ReadLaws
+pub mod Whole

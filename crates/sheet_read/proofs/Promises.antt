@@ -2,7 +2,7 @@
 -- Assumes nothing.
 use mathlib.Core.Path.{_≡_, refl, ap, subst, _∙_}
 use mathlib.Core.List.{List, [], _∷_, map}
-use Prim.Native.Nat.{ℕ, suc, _+_, _≤_}
+use Prim.Native.Nat.{ℕ, _+_, _≤_}
 use native.Mathlib.Omega.{arith}
 use lib.ListN.{length, drop}
 use lib.Seq.{drop-append-seam}
@@ -10,8 +10,8 @@ use Rattle.buffer.specs.Splice.{splice}
 use Rattle.buffer.proofs.SpliceBytes.{length-splice}
 use Rattle.format_grammar.specs.Items.{Items}
 use Rattle.list_elements.specs.Elements.{kindOf}
-use Rattle.list_elements.specs.Contents.{Content, contentKind, textsOf, laidTexts, nextStart, valuesFrom}
-use Rattle.list_elements.proofs.ContentLaws.{kind-from-content, values-list}
+use Rattle.list_elements.specs.Contents.{Content, contentKind, textsOf, laidTexts, valuesFrom, bytesOf}
+use Rattle.list_elements.proofs.ContentLaws.{kind-from-content, values-list, values-length}
 use Rattle.list_elements.proofs.Promises.{gives-contents, zero-past}
 use Rattle.sheet_walk.specs.Walk.{Trace}
 use Rattle.read_passes.proofs.GatheredLaws.{gathers-ends, gathers-readable}
@@ -24,15 +24,10 @@ use Rattle.sheet_read.proofs.Accepted.{puts-all, as-many, few-contents,
 
 -- ---- the list and the text area given
 
-length-values : (at : ℕ) (cs : List Content) → length (valuesFrom at cs) ≡ length cs
-unfolding valuesFrom
-length-values at [] = refl
-length-values at (c ∷ cs) = ap suc (length-values (nextStart at c) cs)
-
 values-kinds : (at : ℕ) (cs : List Content) → map kindOf (valuesFrom at cs) ≡ map contentKind cs
 unfolding valuesFrom
 values-kinds at [] = refl
-values-kinds at (c ∷ cs) = rw (kind-from-content at c, values-kinds (nextStart at c) cs)
+values-kinds at (c ∷ cs) = rw (kind-from-content at c, values-kinds (at + length (bytesOf c)) cs)
 
 length-laid : (area : List ℕ) (cs : List Content) → length (textsOf cs) ≤ length area → length (laidTexts area cs) ≡ length area
 unfolding laidTexts
@@ -115,7 +110,7 @@ accepted-so c cs n e =
       starred = ap (λ r. answerStarred (answerOf r)) e;
       contents = rw (l, m) (gives-contents (c .area) cs few room);
       kinds = rw (l, values-list (valuesFrom 0 cs)) (values-kinds 0 cs ∙ contents-kinds a (r .gathers));
-      past = λ i low high. rw l (zero-past (valuesFrom 0 cs) i (rw length-values few) (rw length-values low) high);
+      past = λ i low high. rw l (zero-past (valuesFrom 0 cs) i (rw values-length few) (rw values-length low) high);
       long = rw m (length-laid (c .area) cs room);
       bytes-after = rw m (drop-laid (c .area) cs);
     }

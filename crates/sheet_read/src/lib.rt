@@ -1,4 +1,7 @@
 // Reading: the public call.
+mod formats;
+pub mod read;
+
 use list_elements::List;
 use sheet_walk::Refusal;
 

@@ -1,6 +1,7 @@
 pub mod StepLaws
 pub mod Returns
 pub mod Covering
+pub mod Beyond
 pub mod Twice
 pub mod Windows
 pub mod FieldRanges

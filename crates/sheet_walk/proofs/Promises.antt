@@ -1,9 +1,10 @@
 -- The theorems on the walk that specs/Promises.antt states.
 -- Assumes nothing.
-use Rattle.sheet_walk.specs.Promises.{EndIs, ReturnTakes, ItemRefusedIs, EndRefusedIs, CoversInside, CoversReached, ElementsSuited, PutsEach, LiteralsWide, RefusedBecause, CoveredTwiceIs, ColumnsKept}
+use Rattle.sheet_walk.specs.Promises.{EndIs, ReturnTakes, ItemRefusedIs, EndRefusedIs, CoversInside, CoversReached, ElementsSuited, PutsEach, LiteralsWide, RecordsBeyond, RefusedBecause, CoveredTwiceIs, ColumnsKept}
 use Rattle.sheet_walk.proofs.Returns
 use Rattle.sheet_walk.proofs.Refusing
 use Rattle.sheet_walk.proofs.Covering
+use Rattle.sheet_walk.proofs.Beyond
 use Rattle.sheet_walk.proofs.Twice
 use Rattle.sheet_walk.proofs.Windows
 
@@ -39,6 +40,9 @@ puts-each = Covering.puts-each
 
 pub literals-wide : LiteralsWide
 literals-wide = Covering.literals-wide
+
+pub records-beyond : RecordsBeyond
+records-beyond = Beyond.records-beyond
 
 pub refused-because : RefusedBecause
 refused-because = Covering.refused-because

@@ -119,6 +119,12 @@ PutsEach = (h : Sheet) (n : ℕ) → EndsWith n (walk h) → elementsPut (walk h
 abbrev pub LiteralsWide : Type 0
 LiteralsWide = (h : Sheet) (p : Placement) → In p (walk h) → (cs : List ℕ) → p .what ≡ literal cs → p .width ≡ length cs
 
+-- the walk does not depend on the records beyond those that it reaches
+abbrev pub RecordsBeyond : Type 0
+RecordsBeyond =
+    (h : Sheet) (n m : ℕ) → EndsWith n (walk h) → n ≤ m
+    → walk (record { items = h .items; part = h .part; kinds = h .kinds; records = record { width = h .records .width; count = m } }) ≡ walk h
+
 -- the walk is refused
 pub data StopsWith (why : Refusal) : Trace → Type 0 where
   here : StopsWith why (stopped why)

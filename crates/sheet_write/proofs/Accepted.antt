@@ -13,7 +13,7 @@ use Rattle.sheet_walk.specs.Walk.{Trace, Sheet, sheet, walk}
 use Rattle.sheet_walk.specs.Columns.{In}
 use Rattle.sheet_walk.specs.Promises.{Walkable, EndsWith, Suited, elementsPut, numbersFrom}
 use Rattle.sheet_walk.proofs.Covering.{sheet-walkable}
-use Rattle.sheet_walk.proofs.FieldRanges.{ends-reached}
+use Rattle.sheet_walk.proofs.FieldRanges.{FieldWithin, fields-within, ends-reached}
 use Rattle.sheet_walk.proofs.Promises.{covers-reached, elements-suited, puts-each}
 use Rattle.sheet_walk.proofs.Windows.{AllFit}
 use Rattle.write_passes.specs.Placed.{characters}
@@ -57,6 +57,10 @@ module _ {c : Call} {t : Trace} {n : ℕ} (a : AcceptableCall c t n) where
   all-suited =
       of-walk (λ s. (p : Placement) → In p s → (i : ℕ) (f : Field ℕ) → p .what ≡ element i f → Suited (map kindOf (valuesOf c)) i f (p .width))
       (elements-suited sheetOf)
+
+  -- and their numbers are within their ranges
+  pub all-within : (p : Placement) → In p t → FieldWithin p
+  all-within = of-walk (λ s. (p : Placement) → In p s → FieldWithin p) (fields-within sheetOf walkable)
 
   -- every element is put once, in order
   pub puts-all : elementsPut t ≡ numbersFrom 0 (length (valuesOf c))

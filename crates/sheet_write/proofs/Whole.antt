@@ -16,7 +16,7 @@ use Rattle.list_elements.proofs.ApartLaws.{check-good}
 use Rattle.list_elements.specs.declared.Value.{Value}
 use Rattle.list_elements.specs.declared.List as carried
 use Rattle.list_elements.specs.declared.ListCheck.{ListCheck}
-use Rattle.list_elements.specs.declared.ListCheck.the-variants.{Good, Bad}
+use Rattle.list_elements.specs.declared.ListCheck.the-variants.{Good}
 use Rattle.sheet_walk.specs.declared.Refusal.the-variants.{RecordWidth}
 use Rattle.sheet_write.specs.Writing.{Writing, accepts, refuses, checkFormat, writingOf, writing, answerOf, writeAnswer, writeBuffer, writingNumber, writingPlace, writingRecords, writingStarred, answerNumber, answerPlace, answerRecords, answerStarred}
 use Rattle.sheet_write.specs.Parts.{ListedIf, Wrote}
@@ -43,13 +43,6 @@ module _ (R : ℕ) (format : List ℕ) (check : ListCheck) (vs : List Value) {ar
 -- ---- the list taken apart
 
 module _ (area : List ℕ) (l : carried.List) (check : ListCheck) (is : check ≡ listCheck area l) where
-  pub usable-few : usableCount check (l .count) ≤ 64
-  usable-few = go check refl
-    where
-      go : (k : ListCheck) → check ≡ k → usableCount k (l .count) ≤ 64
-      go Good e = check-good (withinLimits area) l (sym is ∙ e) .1
-      go (Bad p) e = omega arith
-
   module _ (kinds : List ℕ) (amounts : List ℤ) (details : List ℕ) (long : length kinds ≡ 64)
       (apart : check ≡ Good → Apart (values l) (take (l .count) kinds) (take (l .count) amounts) (take (l .count) details)) where
     pub listed-if : {n : ℕ} → n ≡ usableCount check (l .count) → ListedIf check area (values l) (take n kinds) (take n amounts) (take n details)

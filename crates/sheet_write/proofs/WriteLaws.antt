@@ -3,7 +3,7 @@
 use mathlib.Core.Path.{_≡_, refl, sym, ap, subst, _∙_}
 use mathlib.Core.List.{List, map}
 use Prim.Native.Nat.{ℕ, _*_, _/_, _^_, _<_, _≤_}
-use native.Mathlib.Nat.{mul-le-mul-left, mul-le-mul-right, div-mul-le-self}
+use native.Mathlib.Nat.{mul-le-mul-right}
 use native.Mathlib.Omega.{arith}
 use borrow.Author.Tests.{eq-eqb, ne-eqb}
 use lib.IntN.{ℤ}

@@ -9,7 +9,7 @@ use Rattle.list_elements.proofs.LimitLaws.{from-bits}
 use Rattle.read_passes.specs.Passes.{HeldAs, Contents, Held}
 use borrow.Author.Needs.{needs}
 use mathlib.Core.Path.{_≡_, refl, _∙_}
-use Prim.Native.Nat.{_-_}
+use Prim.Native.Nat.{_≤_, _-_}
 use native.Mathlib.Omega.{arith}
 use Rattle.read_passes.proofs.GiveLaws.{zeroContent, next-held, Giving, giving-none, next-room, giving-more, giving-list, giving-texts}
 use Rattle.read_passes.proofs.giving.give.Statement.{statement}
@@ -42,13 +42,13 @@ shared-slice-read-give-value : tie.Need-shared-slice-read-give-value Inv-loop μ
 shared-slice-read-give-value c = search needs
 
 mul-give-value-2 : tie.Need-mul-give-value-2 Inv-loop μ-loop
-mul-give-value-2 c = let q = c .before .before .before .before .before .before .before .before .pre .held in let h : length (c .before .before .before .before .before .before .before .before .args .amounts .now) ≡ length (c .before .before .before .before .before .before .before .before .args .kinds .now) = q .amounts-long in search needs
+mul-give-value-2 c = let q = c .before .before .before .before .before .before .before .before .pre .held in let h : length (c .before .before .before .before .before .before .before .before .args .kinds .now) ≤ length (c .before .before .before .before .before .before .before .before .args .amounts .now) = q .amounts-long in search needs
 
 shared-slice-copy-out-give-value : tie.Need-shared-slice-copy-out-give-value Inv-loop μ-loop
 shared-slice-copy-out-give-value c = omega (arith, c .before .before .before .before .before .before .before .before .pre .held .amounts-long, c .before .loop-test .taken)
 
 mul-give-value-3 : tie.Need-mul-give-value-3 Inv-loop μ-loop
-mul-give-value-3 c = let q = c .before .before .before .before .before .before .before .before .before .pre .held in let h : length (c .before .before .before .before .before .before .before .before .before .args .details .now) ≡ length (c .before .before .before .before .before .before .before .before .before .args .kinds .now) = q .details-long in search needs
+mul-give-value-3 c = let q = c .before .before .before .before .before .before .before .before .before .pre .held in let h : length (c .before .before .before .before .before .before .before .before .before .args .kinds .now) ≤ length (c .before .before .before .before .before .before .before .before .before .args .details .now) = q .details-long in search needs
 
 shared-slice-read-give-value-2 : tie.Need-shared-slice-read-give-value-2 Inv-loop μ-loop
 shared-slice-read-give-value-2 c = omega (arith, c .before .before .before .before .before .before .before .before .before .before .pre .held .details-long, c .before .before .before .loop-test .taken)

@@ -129,7 +129,7 @@ loop-less-3 : tie.Need-loop-less-3 Inv-loop μ-loop
 loop-less-3 c = let k = c .before .before .before .before .before .before .before .before .before in let a = start k in let q = a .pre .0 in passes.fewer (q .t) (a .args .words .now) (a .args .back) (a .args .kinds .now) (a .args .rs) (q .loaded) (c .before .before .before .before .before .before .before .turn2 .given .0 .1 .1 .0) (k .before .loop .c) (known k (turn.Covers _ _ _) (c .before .before .before .before .before .before .before .turn2 .given .1) (q .t) (q .loaded) .3)
 
 loop-again-3 : tie.Need-loop-again-3 Inv-loop μ-loop
-loop-again-3 c = let k = c .before .before .before .before .before .before .before .before .before in let a = start k in let v = k .before .loop .inv in rw (from-bits (c .before .amount .given .0 .0) (c .known-told3 .given .0 .1)) ((λ t l. takes-element (a .args .back) l (a .args .records .now) (v .0 t l) (c .before .before .before .before .before .before .before .turn2 .given .0 .0) (c .before .before .before .before .before .before .before .turn2 .given .0 .1 .0) (c .before .before .before .before .before .before .before .turn2 .given .0 .1 .1 .0) (known k (turn.Covers _ _ _) (c .before .before .before .before .before .before .before .turn2 .given .1) t l) _ _ (took (c .before .before .before) (Element _ _) (c .before .amount .given .1) t l) (v .1 ∙ a .pre .2) (v .2 ∙ a .pre .3)), length-set (k .before .loop .amounts) (k .before .loop .c .state .taken) (c .before .amount .given .0 .0) ∙ v .1, length-set (k .before .loop .details) (k .before .loop .c .state .taken) (c .before .amount .given .0 .1 .0) ∙ v .2)
+loop-again-3 c = let k = c .before .before .before .before .before .before .before .before .before in let a = start k in let v = k .before .loop .inv in rw (from-bits (c .before .amount .given .0 .0) (c .known-told3 .given .0 .1)) ((λ t l. takes-element (a .args .back) l (a .args .records .now) (v .0 t l) (c .before .before .before .before .before .before .before .turn2 .given .0 .0) (c .before .before .before .before .before .before .before .turn2 .given .0 .1 .0) (c .before .before .before .before .before .before .before .turn2 .given .0 .1 .1 .0) (known k (turn.Covers _ _ _) (c .before .before .before .before .before .before .before .turn2 .given .1) t l) _ _ (took (c .before .before .before) (Element _ _) (c .before .amount .given .1) t l) (omega (arith, v .1, a .pre .2)) (omega (arith, v .2, a .pre .3))), length-set (k .before .loop .amounts) (k .before .loop .c .state .taken) (c .before .amount .given .0 .0) ∙ v .1, length-set (k .before .loop .details) (k .before .loop .c .state .taken) (c .before .amount .given .0 .1 .0) ∙ v .2)
 
 enum-known-turn-3 : tie.Need-enum-known-turn-3 Inv-loop μ-loop
 enum-known-turn-3 c = search needs

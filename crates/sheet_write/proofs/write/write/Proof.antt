@@ -6,8 +6,9 @@ use Prim.Native.Nat.{_≤_}
 use lib.ListN.{length}
 use lib.Seq.{length-take-le}
 use Rattle.list_elements.specs.Elements.{values}
-use Rattle.list_elements.specs.Limits.{listCheck}
-use Rattle.sheet_write.proofs.Whole.{width-none, width-over, width-right, usable-few, listed-if, finished}
+use Rattle.list_elements.specs.Limits.{withinLimits, listCheck}
+use Rattle.list_elements.proofs.ApartLaws.{usable-few}
+use Rattle.sheet_write.proofs.Whole.{width-none, width-over, width-right, listed-if, finished}
 use borrow.Author.Needs.{needs}
 use Rattle.sheet_write.proofs.write.write.Statement.{statement}
 use Rattle.sheet_write.proofs.write.write.Tie as tie
@@ -16,7 +17,7 @@ use Rattle.sheet_write.proofs.write.write.Tie as tie
 few : (c : tie.After-usable) → c .usable .result ≤ 64
 few c =
     let a = c .before .before .before .before .before .before .before .before .before .before .before .before .before in
-    rw (c .usable .ensures) (usable-few (a .args .area .now) (a .args .list) (c .before .before .before .before .take-apart .result) (c .before .before .before .before .take-apart .ensures .0))
+    rw (c .usable .ensures) (usable-few (withinLimits (a .args .area .now)) (a .args .list) (c .before .before .before .before .take-apart .result) (c .before .before .before .before .take-apart .ensures .0))
 
 returns : tie.Need-returns
 returns c = let a = c .before .before .before .before in finished (a .args .width) (a .args .format .now) (a .args .list) (a .args .area .now) (a .args .buffer .now) (width-none (a .args .width) (a .args .format .now) (listCheck (a .args .area .now) (a .args .list)) (values (a .args .list)) (a .args .buffer .now) (c .if1 .taken))

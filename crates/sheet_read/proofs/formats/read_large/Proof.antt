@@ -1,0 +1,78 @@
+-- `sheet_read::formats::read_large` meets its contract.
+-- Assumes nothing.
+use mathlib.Core.Path.{sym}
+use lib.Seq.{length-take-le}
+use Rattle.format_grammar.specs.Check.{outcome}
+use Rattle.sheet_read.proofs.ReadLaws.{format-refused}
+use borrow.Author.Needs.{needs}
+use Rattle.sheet_read.proofs.formats.read_large.Statement.{statement}
+use Rattle.sheet_read.proofs.formats.read_large.Tie as tie
+
+slice-aggregate-load : tie.Need-slice-aggregate-load
+slice-aggregate-load c = search needs
+
+slice-aggregate-load-2 : tie.Need-slice-aggregate-load-2
+slice-aggregate-load-2 c = search needs
+
+slice-aggregate-load-3 : tie.Need-slice-aggregate-load-3
+slice-aggregate-load-3 c = search needs
+
+load-requires : tie.Need-load-requires
+load-requires c κs = search needs
+
+enum-known-refusal : tie.Need-enum-known-refusal
+enum-known-refusal c = search needs
+
+enum-told : tie.Need-enum-told
+enum-told c = search needs
+
+enum-known-end : tie.Need-enum-known-end
+enum-known-end c = search needs
+
+array-share-prefix-run : tie.Need-array-share-prefix-run
+array-share-prefix-run c = (rw (c .before .end .given .1) at (c .before .before .before .before .before .before .load .ensures)) .0
+
+slice-aggregate-read-loaded : tie.Need-slice-aggregate-read-loaded
+slice-aggregate-read-loaded c = sym (length-take-le _ _ ((rw (c .before .before .end .given .1) at (c .before .before .before .before .before .before .before .load .ensures)) .0))
+
+slice-aggregate-read-loaded-2 : tie.Need-slice-aggregate-read-loaded-2
+slice-aggregate-read-loaded-2 c = search needs
+
+read-loaded-requires : tie.Need-read-loaded-requires
+read-loaded-requires c κs = let a = c .before .before .before .before .before .before .before .before .before .before .before .before .before .before .before .before .before .before in (a .pre .0, a .pre .1, record { format = a .args .format .now; held = (rw (c .before .before .before .before .before .end .given .1) at (c .before .before .before .before .before .before .before .before .before .before .load .ensures)) .1 }, a .pre .2, a .pre .3, a .pre .4)
+
+returns : tie.Need-returns
+returns c = let a = c .before .before .before .before .before .before .before .before .before .before .before .before .before .before in record { read = format-refused (a .args .width) (outcome (a .args .format .now)) (a .args .check) (a .args .kinds .now) (a .args .room) (a .args .records .now) (rw (c .before .refusal .given .1) at (c .before .before .before .before .before .before .load .ensures)) }
+
+returns-2 : tie.Need-returns-2
+returns-2 c = absurd ((rw (c .enum-told .given .1) at (c .before .before .before .before .before .load .ensures)) (search needs) (search needs) (search needs))
+
+same-length : tie.Need-same-length
+same-length c = search needs
+
+same-length-2 : tie.Need-same-length-2
+same-length-2 c = search needs
+
+returns-3 : tie.Need-returns-3
+returns-3 c = let a = c .before .before .before .before .before .before .before .before .before .before .before .before .before .before .before .before .before .before .before .before .before .before in record { read = c .before .before .before .read-loaded .ensures .read (a .args .format .now) ((rw (c .before .before .before .before .before .before .before .before .before .end .given .1) at (c .before .before .before .before .before .before .before .before .before .before .before .before .before .before .load .ensures)) .1) }
+
+pub read-large-spec : {M : Type 1} → statement M
+read-large-spec =
+    tie.close
+    (tie.spec
+    slice-aggregate-load
+    slice-aggregate-load-2
+    slice-aggregate-load-3
+    load-requires
+    enum-known-refusal
+    enum-told
+    enum-known-end
+    array-share-prefix-run
+    slice-aggregate-read-loaded
+    slice-aggregate-read-loaded-2
+    read-loaded-requires
+    returns
+    returns-2
+    same-length
+    same-length-2
+    returns-3)

@@ -1,0 +1,41 @@
+-- What the inner functions of reading do. (Nothing here need be believed: the public call's contract does not speak of it.)
+-- Assumes nothing.
+use mathlib.Core.Path.{_≡_}
+use mathlib.Core.List.{List, map}
+use Prim.Native.Nat.{ℕ}
+use lib.IntN.{ℤ}
+use Rattle.format_grammar.specs.Check.{outcome}
+use Rattle.format_load.specs.Loaded.{RunHeld}
+use Rattle.list_elements.specs.Elements.{emptyList}
+use Rattle.list_elements.specs.Apart.{kindFrom}
+use Rattle.list_elements.specs.Contents.{Content}
+use Rattle.list_elements.specs.declared.ListCheck.{ListCheck}
+use Rattle.sheet_walk.specs.declared.Refusal.{Refusal}
+use Rattle.sheet_walk.specs.declared.Ending.{Ending}
+use Rattle.sheet_walk.specs.declared.Ending.the-variants as ending
+use Rattle.read_passes.specs.Passes.{HeldSoFar}
+use Rattle.sheet_read.specs.Reading.{Reading, accepts, refuses, checkFormat}
+use Rattle.sheet_read.specs.declared.SheetRead.{SheetRead}
+use Rattle.sheet_read.specs.declared.ReadAnswer.the-variants as answer
+
+-- a refusal, as the public call answers it
+abbrev pub refusedRead : Refusal → SheetRead
+refusedRead why = record { answer = answer.Refused why; list = emptyList }
+
+-- how a reading ends, as the inner functions answer it
+abbrev pub endingOf : Reading → Ending
+endingOf (accepts cs n) = ending.Accepted n
+endingOf (refuses why) = ending.Refused why
+
+-- the answer r is that of a reading m; where it is accepted, amounts and details hold what the elements hold
+pub record Did (m : Reading) (kinds records : List ℕ) (r : Ending) (amounts : List ℤ) (details : List ℕ) : Type 0 where
+  pub ends : r ≡ endingOf m
+  pub held : (cs : List Content) (n : ℕ) → m ≡ accepts cs n → HeldSoFar records (map kindFrom kinds) amounts details cs
+
+-- under the run of a format
+pub record ReadRun (width : ℕ) (t words : List ℕ) (back : ℕ) (check : ListCheck) (kinds : List ℕ) (room : ℕ) (records : List ℕ) (r : Ending) (amounts : List ℤ) (details : List ℕ) : Type 0 where
+  pub read : (format : List ℕ) → RunHeld format t words back → Did (checkFormat width (outcome format) check (map kindFrom kinds) room records) kinds records r amounts details
+
+-- under a format's text
+pub record ReadText (width : ℕ) (text : List ℕ) (check : ListCheck) (kinds : List ℕ) (room : ℕ) (records : List ℕ) (r : Ending) (amounts : List ℤ) (details : List ℕ) : Type 0 where
+  pub read : Did (checkFormat width (outcome text) check (map kindFrom kinds) room records) kinds records r amounts details
