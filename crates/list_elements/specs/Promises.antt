@@ -1,4 +1,4 @@
--- What the theorems of proofs/Promises.antt say of row 6.
+-- What the theorems of proofs/Promises.antt say of row 6, and of the list that reading gives.
 -- Assumes nothing.
 use mathlib.Core.Path.{_≡_}
 use mathlib.Core.Logic.{_↔_}
@@ -12,7 +12,7 @@ use Rattle.list_elements.specs.Contents.{Content, contentOf, textsOf, la
 use Rattle.list_elements.specs.declared.Value.{Value}
 use Rattle.list_elements.specs.declared.List as carried
 
--- ---- row 6, of a list whose values must pass a test: `withinLimits area` in writing, `wanted` in reading
+-- ---- row 6, of a list whose values must pass a test: `withinLimits area` in writing, `mayBeWanted` in reading
 
 -- the values before place i pass it
 abbrev pub GoodUpTo : (Value → Bool) → List Value → ℕ → Type 0

@@ -23,7 +23,7 @@ use Rattle.format_grammar.proofs.Cases.{no-way}
 use Rattle.sheet_write.specs.Promises as writing
 use Rattle.sheet_write.specs.Promises.{valuesOf}
 use Rattle.read_passes.specs.Given.{gives, nothing, fieldGives, Gathered, accepted, refused, inFront, elementGathered, kindAt, whatGathered, gathered, shown}
-use Rattle.read_back.specs.DemandThree.{Starred, StarredField, FirstStarred, shownBefore, shownValues}
+use Rattle.read_back.specs.DemandThree.{Starred, StarredField, FirstStarred, shownInFront, shownValues}
 use Rattle.read_back.proofs.FieldBack.{starred-stars, stars-starred}
 
 -- ---- elements put in order
@@ -138,7 +138,7 @@ module _ (c : writing.Call) where
         go (literal cs) q u = refl
 
     -- the shown values
-    before-accepted : (p : Placement) (what : What) (cs : List Content) (n : ℕ) → before p what (accepted cs n) ≡ accepted (shownBefore c p what cs) n
+    before-accepted : (p : Placement) (what : What) (cs : List Content) (n : ℕ) → before p what (accepted cs n) ≡ accepted (shownInFront c p what cs) n
     before-accepted p (element i f) cs n = refl
     before-accepted p (literal bytes) cs n = refl
 
@@ -172,7 +172,7 @@ module _ (c : writing.Call) where
 
   module _ (kinds : List Kind) where
     kinds-before : (p : Placement) (what : What) → p .what ≡ what → ((i : ℕ) (f : Field ℕ) → p .what ≡ element i f → contentKind (shownAt p i f) ≡ kindAt kinds i)
-        → (cs : List Content) (is : List ℕ) → map contentKind cs ≡ map (kindAt kinds) is → map contentKind (shownBefore c p what cs) ≡ map (kindAt kinds) (placeOf what is)
+        → (cs : List Content) (is : List ℕ) → map contentKind cs ≡ map (kindAt kinds) is → map contentKind (shownInFront c p what cs) ≡ map (kindAt kinds) (placeOf what is)
     kinds-before p (element i f) q k cs is e = rw (k i f q, e)
     kinds-before p (literal bytes) q k cs is e = e
 

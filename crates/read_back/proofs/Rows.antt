@@ -12,7 +12,7 @@ use Rattle.format_grammar.specs.Items.{Items}
 use Rattle.format_grammar.specs.Check as formats
 use Rattle.format_grammar.proofs.Promises as grammar
 use Rattle.list_elements.specs.Elements.{Kind, kindOf, values}
-use Rattle.list_elements.specs.Limits.{withinLimits, wantedWithin, wanted, wantedCheck, textsLength, longestText}
+use Rattle.list_elements.specs.Limits.{withinLimits, wantedWithin, mayBeWanted, wantedCheck, textsLength, longestText}
 use Rattle.list_elements.specs.declared.Value.{Value}
 use Rattle.list_elements.specs.declared.Value.the-variants as value
 use Rattle.list_elements.specs.declared.ListCheck.{ListCheck}
@@ -74,7 +74,7 @@ module _ (c : writing.Call) (t : Trace) (e : Accepted c t) (b : reading.Call) (r
   wanted-good : wantedCheck (b .wanted) ≡ Good
   wanted-good =
       let g = check-good (withinLimits (c .area)) (c .list) (acceptable c t e .walks .list) in
-      good-back wanted (b .wanted) (omega (arith, g .1, r .same-count))
+      good-back mayBeWanted (b .wanted) (omega (arith, g .1, r .same-count))
       (λ j l h.
       ap wantedWithin (same-kind j)
       ∙ kind-wanted (c .area) (valueAt (valuesOf c) j) (good-at (withinLimits (c .area)) (valuesOf c) (g .0) j (omega (arith, same-length))))

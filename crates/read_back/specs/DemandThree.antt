@@ -54,7 +54,8 @@ pub record FirstStarred (c : writing.Call) (t : Trace) (i : ℕ) : Type 0 where
 -- ---- reading back
 
 -- 'its records are read back under the same format, record width, kinds and text lengths, whatever bytes follow them, with a
--- text area that has room for the texts end to end': the call b reads the records that the call c wrote
+-- text area that has room for the texts end to end': the call b reads the records that the call c wrote. (The count is named
+-- beside the kinds, since a count over 64 has the kinds of 64 elements.)
 pub record ReadsBack (c : writing.Call) (b : reading.Call) : Type 0 where
   pub same-format : b .format ≡ c .format
   pub same-width : b .R ≡ c .R
@@ -65,12 +66,12 @@ pub record ReadsBack (c : writing.Call) (b : reading.Call) : Type 0 where
   pub room : textsLength (kindsOf b) ≤ length (b .area)
 
 -- 'the whole list of shown values': that of each element in the order of the walk, which is list order (`ElementsPut`)
-abbrev pub shownBefore : writing.Call → Placement → What → List Content → List Content
-shownBefore c p (element i f) rest = shown f (p .width) (contentOf (c .area) (valueAt (valuesOf c) i)) ∷ rest
-shownBefore c p (literal cs) rest = rest
+abbrev pub shownInFront : writing.Call → Placement → What → List Content → List Content
+shownInFront c p (element i f) rest = shown f (p .width) (contentOf (c .area) (valueAt (valuesOf c) i)) ∷ rest
+shownInFront c p (literal cs) rest = rest
 
 unfoldable pub shownValues : writing.Call → Trace → List Content
-shownValues c (put p t) = shownBefore c p (p .what) (shownValues c t)
+shownValues c (put p t) = shownInFront c p (p .what) (shownValues c t)
 shownValues c (done n) = []
 shownValues c (stopped why) = []
 

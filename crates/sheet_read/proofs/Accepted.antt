@@ -6,7 +6,7 @@ use Prim.Native.Nat.{ℕ, _/_, _≤_}
 use native.Mathlib.Omega.{arith}
 use lib.ListN.{length, length-map}
 use Rattle.list_elements.specs.Elements.{kindOf, values}
-use Rattle.list_elements.specs.Limits.{mostElements, wanted}
+use Rattle.list_elements.specs.Limits.{mostElements, mayBeWanted}
 use Rattle.list_elements.specs.Contents.{Content, contentKind, textsOf}
 use Rattle.list_elements.proofs.ApartLaws.{values-most, check-good}
 use Rattle.list_elements.proofs.ContentLaws.{texts-length}
@@ -37,7 +37,7 @@ module _ {c : Call} {t : Trace} {n : ℕ} (a : AcceptableCall c t n) where
   -- at most 64 elements are wanted
   few : length (kindsOf c) ≤ mostElements
   few =
-      let g = check-good wanted (c .wanted) (a .walks .wants .list) .1 in
+      let g = check-good mayBeWanted (c .wanted) (a .walks .list-passed .list) .1 in
       let l = length-map (values (c .wanted)) kindOf in
       omega (arith, values-most (c .wanted))
 

@@ -23,7 +23,7 @@ use Rattle.sheet_walk.specs.declared.Refusal.the-variants.{RecordWidth, Format,
 use Rattle.read_passes.specs.Given.{gathered}
 use Rattle.read_passes.proofs.GatheredLaws.{Refuses, gathers-so, refuses-so, readable-gathers, readable-refuses}
 use Rattle.sheet_read.specs.Reading.{Reading, accepts, refuses, concluded, checkRecords, checkArea, checkWanted, checkFormat, readingOf, answerOf, answerNumber, answerPlace}
-use Rattle.sheet_read.specs.Promises.{Call, kindsOf, becomes, answerTo, WidthRight, Wants, Walks, walkOf, UnreadableAt, AcceptableCall, AnsweredBy}
+use Rattle.sheet_read.specs.Promises.{Call, kindsOf, becomes, answerTo, WidthRight, ListPassed, Walks, walkOf, UnreadableAt, AcceptableCall, AnsweredBy}
 use Rattle.sheet_read.proofs.Calls.{GathersOn, RefusesOn, width-passed}
 
 -- the first field that gives nothing refuses the walk
@@ -42,17 +42,17 @@ module _ (c : Call) where
       → becomes c ≡ checkWanted (c .R) xs k (kindsOf c) (length (c .area)) (c .records)
   past-format xs w f k e = past-width w ∙ rw (grammar.accepts-exactly (c .format) xs .1 f, e)
 
-  past-wanted : (xs : Items) → Wants c xs → becomes c ≡ checkArea (c .R) xs (kindsOf c) (length (c .area)) (c .records)
+  past-wanted : (xs : Items) → ListPassed c xs → becomes c ≡ checkArea (c .R) xs (kindsOf c) (length (c .area)) (c .records)
   past-wanted xs w = past-format xs (w .width) (w .format) Good (w .list)
 
-  past-area : (xs : Items) → Wants c xs → textsLength (kindsOf c) ≤ length (c .area) → becomes c ≡ checkRecords (c .R) xs (kindsOf c) (c .records)
+  past-area : (xs : Items) → ListPassed c xs → textsLength (kindsOf c) ≤ length (c .area) → becomes c ≡ checkRecords (c .R) xs (kindsOf c) (c .records)
   past-area xs w l = past-wanted xs w ∙ rw (le-leb (textsLength (kindsOf c)) (length (c .area)) l)
 
   past-records : (xs : Items) → Walks c xs → becomes c ≡ concluded (gathered (c .R) (kindsOf c) (c .records) (walkOf c xs))
   past-records xs w =
       let some = w .some-record in
       let ne : length (c .records) / c .R ≡ 0 → ⊥ = λ z. omega arith in
-      past-area xs (w .wants) (w .room) ∙ rw (ne-eqb (length (c .records) / c .R) 0 ne)
+      past-area xs (w .list-passed) (w .room) ∙ rw (ne-eqb (length (c .records) / c .R) 0 ne)
 
   -- contents that are gathered on its walk are accepted
   pub passes : (t : Trace) (cs : List Content) (n : ℕ) → AcceptableCall c t n → GathersOn c t cs n → becomes c ≡ accepts cs n

@@ -29,7 +29,7 @@ use Rattle.sheet_walk.proofs.Covering.{in-put, in-stopped}
 use Rattle.read_passes.specs.Given.{Gathered, gathered}
 use Rattle.read_passes.proofs.GatheredLaws.{Gathers, Refuses, Told, told, AllReadable}
 use Rattle.sheet_read.specs.Reading.{Reading, accepts, refuses, concluded, checkRecords, checkArea, checkWanted, checkFormat, readingOf}
-use Rattle.sheet_read.specs.Promises.{Call, kindsOf, becomes, WidthRight, Wants, Walks, walkOf, Readable, UnreadableAt, AnsweredBy}
+use Rattle.sheet_read.specs.Promises.{Call, kindsOf, becomes, WidthRight, ListPassed, Walks, walkOf, Readable, UnreadableAt, AnsweredBy}
 
 -- contents and n records are gathered on a walk of the call
 abbrev pub GathersOn : Call → Trace → List Content → ℕ → Type 0
@@ -70,7 +70,7 @@ came-walk c xs w (Told.refuses r) = Came.refused (answered-walk c xs w (stopped 
 
 -- ---- the rows before it, the last first
 
-came-records : (c : Call) (xs : Items) → Wants c xs → textsLength (kindsOf c) ≤ length (c .area) → Came c (checkRecords (c .R) xs (kindsOf c) (c .records))
+came-records : (c : Call) (xs : Items) → ListPassed c xs → textsLength (kindsOf c) ≤ length (c .area) → Came c (checkRecords (c .R) xs (kindsOf c) (c .records))
 came-records c xs w l = go (eqb (length (c .records) / c .R) 0) refl
   where
     go : (b : Bool) → eqb (length (c .records) / c .R) 0 ≡ b → Came c (cond b (refuses NoRecord) (concluded (gathered (c .R) (kindsOf c) (c .records) (walkOf c xs))))
@@ -78,9 +78,9 @@ came-records c xs w l = go (eqb (length (c .records) / c .R) 0) refl
     go false e =
         let ne : length (c .records) / c .R ≡ 0 → ⊥ = eqb-false (length (c .records) / c .R) 0 e in
         let some : 0 < length (c .records) / c .R = omega arith in
-        came-walk c xs (record { wants = w; room = l; some-record = some }) (told (c .R) (kindsOf c) (c .records) (walkOf c xs))
+        came-walk c xs (record { list-passed = w; room = l; some-record = some }) (told (c .R) (kindsOf c) (c .records) (walkOf c xs))
 
-came-area : (c : Call) (xs : Items) → Wants c xs → Came c (checkArea (c .R) xs (kindsOf c) (length (c .area)) (c .records))
+came-area : (c : Call) (xs : Items) → ListPassed c xs → Came c (checkArea (c .R) xs (kindsOf c) (length (c .area)) (c .records))
 came-area c xs w = go (leb (textsLength (kindsOf c)) (length (c .area))) refl
   where
     go : (b : Bool) → leb (textsLength (kindsOf c)) (length (c .area)) ≡ b → Came c (cond b (checkRecords (c .R) xs (kindsOf c) (c .records)) (refuses TextArea))

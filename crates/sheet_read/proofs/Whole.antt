@@ -105,7 +105,7 @@ module _ (c : Call) (low : 1 ≤ c .R) (high : c .R ≤ 255) (check : ListCheck)
         let a = accepted-from _ (sym e ∙ did .ends) in
         let b = becomes-is ∙ a .1 in
         let g = accepts-exactly c (a .0) k .0 b in
-        let q = kinds-are (is ∙ g .accepted .walks .wants .list) in
+        let q = kinds-are (is ∙ g .accepted .walks .list-passed .list) in
         let m : length used ≡ length (kindsOf c) = sym (length-map used kindFrom) ∙ ap length q in
         record {
           cs = a .0;

@@ -63,14 +63,14 @@ pub record WidthRight (c : Call) : Type 0 where
   pub to : c .R ≤ 255
 
 -- rows 1 to 6 are passed, the format's items being xs
-pub record Wants (c : Call) (xs : Items) : Type 0 where
+pub record ListPassed (c : Call) (xs : Items) : Type 0 where
   pub width : WidthRight c
   pub format : Acceptable (c .format) xs
   pub list : wantedCheck (c .wanted) ≡ Good
 
 -- and so are rows 13 and 9: every row before the walk
 pub record Walks (c : Call) (xs : Items) : Type 0 where
-  pub wants : Wants c xs
+  pub list-passed : ListPassed c xs
   pub room : textsLength (kindsOf c) ≤ length (c .area)
   pub some-record : 0 < length (c .records) / c .R
 
@@ -105,8 +105,8 @@ pub data AnsweredBy (c : Call) : ℕ → ℕ → Type 0 where
   wrong-width : (WidthRight c → ⊥) → AnsweredBy c 1 0
   wrong-format : {k p : ℕ} → WidthRight c → (k ≡ 0 → ⊥) → grammar.AnsweredBy (c .format) k p → AnsweredBy c k p
   bad-element : {xs : Items} {p : ℕ} → WidthRight c → Acceptable (c .format) xs → wantedCheck (c .wanted) ≡ Bad p → AnsweredBy c 6 p
-  no-room : {xs : Items} → Wants c xs → length (c .area) < textsLength (kindsOf c) → AnsweredBy c 13 0
-  no-record : {xs : Items} → Wants c xs → textsLength (kindsOf c) ≤ length (c .area) → length (c .records) / c .R ≡ 0 → AnsweredBy c 9 0
+  no-room : {xs : Items} → ListPassed c xs → length (c .area) < textsLength (kindsOf c) → AnsweredBy c 13 0
+  no-record : {xs : Items} → ListPassed c xs → textsLength (kindsOf c) ≤ length (c .area) → length (c .records) / c .R ≡ 0 → AnsweredBy c 9 0
   refused-walk : {xs : Items} {why : Refusal} → Walks c xs → StopsWith why (walkOf c xs) → ((p : Placement) → In p (walkOf c xs) → Readable c p)
       → AnsweredBy c (refusalNumber why) (refusalPlace why)
   unreadable : {xs : Items} {i : ℕ} → Walks c xs → UnreadableAt c i (walkOf c xs) → AnsweredBy c 12 i

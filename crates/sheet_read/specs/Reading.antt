@@ -35,7 +35,8 @@ concluded (refused why) = refuses why
 
 -- ---- the rows before the walk, 'in this order'; each is written with the rows that apply after it, so that row 1 stands last
 
--- row 9, 'buffer, before the walk', and then the same walk as in writing
+-- row 9, 'buffer, before the walk': 'A lent buffer of B bytes holds B / R whole records, rounded down'; and then the same walk as in
+-- writing
 abbrev pub checkRecords : ℕ → Items → List Kind → List ℕ → Reading
 checkRecords R xs kinds records =
     cond (eqb (length records / R) 0) (refuses NoRecord)

@@ -3,12 +3,13 @@
 use Prim.Native.Nat.{ℕ}
 use Rattle.format_grammar.specs.Check as format
 use Rattle.sheet_walk.specs.declared.Refusal.{Refusal}
-use Rattle.sheet_walk.specs.declared.Refusal.the-variants.{RecordWidth, Format, Element, NoRecord, NextRecord, NoField, Kind, Column, TooLarge, FieldText, TextArea}
+use Rattle.sheet_walk.specs.declared.Refusal.the-variants.{RecordWidth, Format, Element, TextArea, NoRecord, NextRecord, NoField, Kind, Column, TooLarge, FieldText}
 
 abbrev pub refusalNumber : Refusal → ℕ
 refusalNumber RecordWidth = 1
 refusalNumber (Format why) = format.refusalNumber why
 refusalNumber (Element p) = 6
+refusalNumber TextArea = 13
 refusalNumber NoRecord = 9
 refusalNumber (NextRecord p) = 9
 refusalNumber (NoField p) = 10
@@ -16,12 +17,12 @@ refusalNumber (Kind p) = 7
 refusalNumber (Column p) = 8
 refusalNumber (TooLarge p) = 11
 refusalNumber (FieldText p) = 12
-refusalNumber TextArea = 13
 
 abbrev pub refusalPlace : Refusal → ℕ
 refusalPlace RecordWidth = 0
 refusalPlace (Format why) = format.refusalPlace why
 refusalPlace (Element p) = p
+refusalPlace TextArea = 0
 refusalPlace NoRecord = 0
 refusalPlace (NextRecord p) = p
 refusalPlace (NoField p) = p
@@ -29,4 +30,3 @@ refusalPlace (Kind p) = p
 refusalPlace (Column p) = p
 refusalPlace (TooLarge p) = p
 refusalPlace (FieldText p) = p
-refusalPlace TextArea = 0

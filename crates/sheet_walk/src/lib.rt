@@ -11,6 +11,7 @@ pub enum Refusal {
     RecordWidth,
     Format(FormatRefusal),
     Element { place: usize },
+    TextArea,
     NoRecord,
     NextRecord { place: usize },
     NoField { place: usize },
@@ -18,7 +19,6 @@ pub enum Refusal {
     Column { place: usize },
     TooLarge { place: usize },
     FieldText { place: usize },
-    TextArea,
 }
 
 // The widest record.

@@ -11,6 +11,7 @@ pub fn number_of(refusal: Refusal) -> u64
         Refusal::RecordWidth => 1,
         Refusal::Format(why) => format_check::refusal::number_of(why),
         Refusal::Element { place: _ } => 6,
+        Refusal::TextArea => 13,
         Refusal::NoRecord => 9,
         Refusal::NextRecord { place: _ } => 9,
         Refusal::NoField { place: _ } => 10,
@@ -18,7 +19,6 @@ pub fn number_of(refusal: Refusal) -> u64
         Refusal::Column { place: _ } => 8,
         Refusal::TooLarge { place: _ } => 11,
         Refusal::FieldText { place: _ } => 12,
-        Refusal::TextArea => 13,
     }
 }
 
@@ -30,6 +30,7 @@ pub fn place_of(refusal: Refusal) -> usize
         Refusal::RecordWidth => 0,
         Refusal::Format(why) => format_check::refusal::place_of(why),
         Refusal::Element { place } => place,
+        Refusal::TextArea => 0,
         Refusal::NoRecord => 0,
         Refusal::NextRecord { place } => place,
         Refusal::NoField { place } => place,
@@ -37,6 +38,5 @@ pub fn place_of(refusal: Refusal) -> usize
         Refusal::Column { place } => place,
         Refusal::TooLarge { place } => place,
         Refusal::FieldText { place } => place,
-        Refusal::TextArea => 0,
     }
 }

@@ -149,7 +149,7 @@ PlacedRight =
     × (length (characters (c .area) (valuesOf c) p) ≡ p .width)
     × ((i : ℕ) (f : Field ℕ) → p .what ≡ element i f → Suited (map kindOf (valuesOf c)) i f (p .width))
 
--- ---- demand 3 of the order, first half
+-- ---- which fields are starred (demand 3 of the order as a whole is `DemandThree` of `read_back`)
 
 abbrev pub numeric : Field ℕ → Bool
 numeric (Field.I w) = true

@@ -7,7 +7,7 @@ use Prim.Native.Nat.{ℕ, _≤_}
 use native.Mathlib.Omega.{arith}
 use lib.ListN.{length, take}
 use lib.Seq.{length-take-le}
-use Rattle.list_elements.specs.Limits.{wanted, wantedCheck}
+use Rattle.list_elements.specs.Limits.{mayBeWanted, wantedCheck}
 use Rattle.list_elements.proofs.ApartLaws.{usable-few}
 use Rattle.sheet_walk.specs.declared.Ending.the-variants as ending
 use Rattle.sheet_read.specs.Promises.{Call, kindsOf, becomes}
@@ -22,7 +22,7 @@ given a = record { R = a .args .width; format = a .args .format .now; wanted = a
 
 -- the elements used are at most 64, and so are their kinds
 few : (c : tie.After-usable) → c .usable .result ≤ 64
-few c = rw (c .usable .ensures) (usable-few wanted (c .before .before .before .before .before .before .before .before .before .args .wanted) (c .before .before .take-kinds .result) (c .before .before .take-kinds .ensures .0))
+few c = rw (c .usable .ensures) (usable-few mayBeWanted (c .before .before .before .before .before .before .before .before .before .args .wanted) (c .before .before .take-kinds .result) (c .before .before .take-kinds .ensures .0))
 
 all-kinds : (c : tie.After-usable) → c .usable .result ≤ length (c .before .before .take-kinds .last .1 .0)
 all-kinds c = let g : length (c .before .before .take-kinds .last .1 .0) ≡ 64 = search needs in omega (arith, few c)
