@@ -25,7 +25,8 @@ use Rattle.sheet_write.specs.Promises as writing
 use Rattle.sheet_write.specs.Promises.{numeric, NoNumeral, Unrepresentable, Counted, valuesOf, starredNumber, recordsNumber}
 use Rattle.sheet_write.proofs.Promises.{stars-exactly-when, starred-is-their-number, elements-put, records-reached}
 use Rattle.read_passes.specs.Given.{kindAt}
-use Rattle.sheet_read.specs.Reading.{accepts, refuses, concluded, answerOf, listGiven, areaOf, answerNumber, answerPlace, answerRecords}
+use Rattle.sheet_walk.specs.Answers.{answerNumber, answerPlace, answerRecords}
+use Rattle.sheet_read.specs.Reading.{accepts, refuses, concluded, answerOf, listGiven, areaOf}
 use Rattle.sheet_read.specs.Promises as reading
 use Rattle.sheet_read.specs.Promises.{answerTo, contentsAfter, kindsOf}
 use Rattle.read_back.specs.DemandThree.{Accepted, StarredField, FirstStarred, ReadsBack, shownValues, DemandThree}

@@ -19,7 +19,7 @@ use Rattle.sheet_write.specs.Writing.{accepts}
 use Rattle.sheet_write.specs.Promises as writing
 use Rattle.sheet_write.specs.Promises.{numeric, NoNumeral, Counted, valuesOf, starredNumber, recordsNumber, bufferAfter}
 use Rattle.read_passes.specs.Given.{shown}
-use Rattle.sheet_read.specs.Reading.{answerNumber, answerPlace, answerRecords}
+use Rattle.sheet_walk.specs.Answers.{answerNumber, answerPlace, answerRecords}
 use Rattle.sheet_read.specs.Promises as reading
 use Rattle.sheet_read.specs.Promises.{kindsOf, answerTo, contentsAfter}
 

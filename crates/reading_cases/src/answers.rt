@@ -8,8 +8,8 @@ use case_lines::shown::show_if;
 use case_lines::shown::show_line_end;
 use case_lines::shown::show_refused;
 use list_elements::List;
-use sheet_read::ReadAnswer;
 use sheet_read::SheetRead;
+use sheet_walk::Answer;
 use sheet_walk::Refusal;
 use sheet_walk::refusals::number_of;
 use sheet_walk::refusals::place_of;
@@ -37,8 +37,8 @@ pub fn show_answer(read: SheetRead, area: &[u8]) {
     let answer = read.answer;
     let list = read.list;
     match answer {
-        ReadAnswer::Accepted { records, starred } => show_accepted(records, starred, list, area),
-        ReadAnswer::Refused(refusal) => show_not_read(refusal, list, area),
+        Answer::Accepted { records, starred } => show_accepted(records, starred, list, area),
+        Answer::Refused(refusal) => show_not_read(refusal, list, area),
     }
     show_if(!zeros_follow(list), b" not 0");
     show_line_end();

@@ -16,7 +16,7 @@ use case_lines::shown::show_records;
 use libc::STDOUT_FILENO;
 use list_elements::List;
 use sheet_read::read::read;
-use sheet_write::Written;
+use sheet_walk::Answer;
 use sheet_write::write::write;
 ghost use Prim.Native.Nat.{_≤_, _<_};
 ghost use lib.ListN.{length};
@@ -62,11 +62,11 @@ fn show_line_read(sizes: Sizes, format: &[u8], wanted: List, line: &[u8]) {
 fn show_both(sizes: Sizes, format: &[u8], list: List, texts: &[u8], buffer: &mut [u8]) {
     let answer = write(sizes.width, format, list, texts, buffer);
     match answer {
-        Written::Accepted { records, starred } => {
+        Answer::Accepted { records, starred } => {
             show_records(records, starred, buffer);
             show_reading(sizes.width, sizes.area, format, list, buffer);
         }
-        Written::Refused(refusal) => {
+        Answer::Refused(refusal) => {
             show_refusal(refusal);
             show_line_end();
         }

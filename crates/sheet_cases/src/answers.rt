@@ -4,10 +4,10 @@ use case_lines::shown::show_if;
 use case_lines::shown::show_line_end;
 use case_lines::shown::show_records;
 use case_lines::shown::show_refused;
+use sheet_walk::Answer;
 use sheet_walk::Refusal;
 use sheet_walk::refusals::number_of;
 use sheet_walk::refusals::place_of;
-use sheet_write::Written;
 
 // A refusal's number and place, and whether the buffer was changed.
 fn show_refusal(refusal: Refusal, buffer: &[u8]) {
@@ -16,9 +16,9 @@ fn show_refusal(refusal: Refusal, buffer: &[u8]) {
     show_line_end();
 }
 
-pub fn show_answer(answer: Written, buffer: &[u8]) {
+pub fn show_answer(answer: Answer, buffer: &[u8]) {
     match answer {
-        Written::Accepted { records, starred } => show_records(records, starred, buffer),
-        Written::Refused(refusal) => show_refusal(refusal, buffer),
+        Answer::Accepted { records, starred } => show_records(records, starred, buffer),
+        Answer::Refused(refusal) => show_refusal(refusal, buffer),
     }
 }

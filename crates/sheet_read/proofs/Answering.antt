@@ -22,7 +22,8 @@ use Rattle.sheet_walk.specs.declared.Refusal.{Refusal}
 use Rattle.sheet_walk.specs.declared.Refusal.the-variants.{RecordWidth, Format, NoRecord, TextArea, FieldText}
 use Rattle.read_passes.specs.Given.{gathered}
 use Rattle.read_passes.proofs.GatheredLaws.{Refuses, gathers-so, refuses-so, readable-gathers, readable-refuses}
-use Rattle.sheet_read.specs.Reading.{Reading, accepts, refuses, concluded, checkRecords, checkArea, checkWanted, checkFormat, readingOf, answerOf, answerNumber, answerPlace}
+use Rattle.sheet_walk.specs.Answers.{answerNumber, answerPlace}
+use Rattle.sheet_read.specs.Reading.{Reading, accepts, refuses, concluded, checkRecords, checkArea, checkWanted, checkFormat, readingOf, answerOf}
 use Rattle.sheet_read.specs.Promises.{Call, kindsOf, becomes, answerTo, WidthRight, ListPassed, Walks, walkOf, UnreadableAt, AcceptableCall, AnsweredBy}
 use Rattle.sheet_read.proofs.Calls.{GathersOn, RefusesOn, width-passed}
 

@@ -16,7 +16,8 @@ use Rattle.list_elements.proofs.Promises.{gives-contents, zero-past}
 use Rattle.sheet_walk.specs.Walk.{Trace}
 use Rattle.read_passes.proofs.GatheredLaws.{gathers-ends, gathers-readable}
 use Rattle.read_passes.proofs.OrderLaws.{gathers-fields, fields-gather}
-use Rattle.sheet_read.specs.Reading.{Reading, accepts, answerOf, listGiven, areaOf, answerNumber, answerPlace, answerRecords, answerStarred}
+use Rattle.sheet_walk.specs.Answers.{answerNumber, answerPlace, answerRecords, answerStarred}
+use Rattle.sheet_read.specs.Reading.{Reading, accepts, answerOf, listGiven, areaOf}
 use Rattle.sheet_read.specs.Promises.{Call, kindsOf, becomes, Walks, walkOf, AcceptableCall, AnsweredBy, AlwaysAnswered, AnsweredOnly, RefusedSo, GivenInOrder, AcceptsExactly, AcceptedSo}
 use Rattle.sheet_read.proofs.Calls.{Came, came, GathersOn}
 use Rattle.sheet_read.proofs.Answering.{passes, meets-only}

@@ -21,11 +21,12 @@ use Rattle.sheet_walk.specs.declared.Refusal.the-variants.{RecordWidth}
 use Rattle.sheet_walk.specs.declared.Ending.{Ending}
 use Rattle.sheet_walk.specs.declared.Ending.the-variants as ending
 use Rattle.read_passes.specs.Passes.{Held}
-use Rattle.sheet_read.specs.Reading.{Reading, accepts, refuses, checkFormat, readingOf, reading, answerOf, listGiven, areaOf, readAnswer, readList, readArea, readingNumber, readingPlace, readingRecords, readingStarred, answerNumber, answerPlace, answerRecords, answerStarred}
+use Rattle.sheet_walk.specs.Answers.{answerNumber, answerPlace, answerRecords, answerStarred}
+use Rattle.sheet_read.specs.Reading.{Reading, accepts, refuses, checkFormat, readingOf, reading, answerOf, listGiven, areaOf, readAnswer, readList, readArea, readingNumber, readingPlace, readingRecords, readingStarred}
 use Rattle.sheet_read.specs.Parts.{refusedRead, endingOf, Did}
 use Rattle.sheet_read.specs.Promises.{Call, kindsOf, becomes}
 use Rattle.sheet_read.specs.declared.SheetRead.{SheetRead}
-use Rattle.sheet_read.specs.declared.ReadAnswer.the-variants as answer
+use Rattle.sheet_walk.specs.declared.Answer.the-variants as answer
 use Rattle.sheet_read.proofs.Promises.{accepts-exactly}
 
 -- ---- what a reading answers, gives and leaves in the area

@@ -16,7 +16,7 @@ use Rattle.sheet_walk.specs.declared.Ending.the-variants as ending
 use Rattle.read_passes.specs.Passes.{HeldSoFar}
 use Rattle.sheet_read.specs.Reading.{Reading, accepts, refuses, checkFormat}
 use Rattle.sheet_read.specs.declared.SheetRead.{SheetRead}
-use Rattle.sheet_read.specs.declared.ReadAnswer.the-variants as answer
+use Rattle.sheet_walk.specs.declared.Answer.the-variants as answer
 
 -- a refusal, as the public call answers it
 abbrev pub refusedRead : Refusal → SheetRead

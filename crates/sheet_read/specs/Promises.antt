@@ -22,8 +22,9 @@ use Rattle.sheet_walk.specs.Laid.{columns}
 use Rattle.sheet_walk.specs.Promises.{EndsWith, StopsWith, elementsPut, numbersFrom}
 use Rattle.sheet_walk.specs.declared.Refusal.{Refusal}
 use Rattle.read_passes.specs.Given.{Given, gives, nothing, fieldGives, kindAt}
-use Rattle.sheet_read.specs.Reading.{Reading, accepts, refuses, reading, readAnswer, readList, readArea, answerNumber, answerPlace, answerRecords, answerStarred}
-use Rattle.sheet_read.specs.declared.ReadAnswer.{ReadAnswer}
+use Rattle.sheet_walk.specs.Answers.{answerNumber, answerPlace, answerRecords, answerStarred}
+use Rattle.sheet_read.specs.Reading.{Reading, accepts, refuses, reading, readAnswer, readList, readArea}
+use Rattle.sheet_walk.specs.declared.Answer.{Answer}
 
 -- ---- what a call is given
 
@@ -41,7 +42,7 @@ kindsOf c = map kindOf (values (c .wanted))
 abbrev pub becomes : Call → Reading
 becomes c = reading (c .R) (c .format) (c .wanted) (length (c .area)) (c .records)
 
-abbrev pub answerTo : Call → ReadAnswer
+abbrev pub answerTo : Call → Answer
 answerTo c = readAnswer (c .R) (c .format) (c .wanted) (c .area) (c .records)
 
 abbrev pub listAfter : Call → carried.List

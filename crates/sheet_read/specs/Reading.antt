@@ -20,8 +20,8 @@ use Rattle.sheet_walk.specs.Walk.{sheet, walk}
 use Rattle.sheet_walk.specs.declared.Refusal.{Refusal}
 use Rattle.sheet_walk.specs.declared.Refusal.the-variants.{RecordWidth, Format, Element, TextArea, NoRecord}
 use Rattle.read_passes.specs.Given.{Gathered, accepted, refused, gathered}
-use Rattle.sheet_read.specs.declared.ReadAnswer.{ReadAnswer}
-use Rattle.sheet_read.specs.declared.ReadAnswer.the-variants as answer
+use Rattle.sheet_walk.specs.declared.Answer.{Answer}
+use Rattle.sheet_walk.specs.declared.Answer.the-variants as answer
 
 -- accepted, with what the elements hold, in list order, and the number of records reached, or refused
 pub data Reading : Type 0 where
@@ -68,7 +68,7 @@ reading R format wanted room records = readingOf R format (wantedCheck wanted) (
 -- ---- the answer, the list given, and the text area afterwards
 
 -- 'The result carries the number of records and the number of starred fields .., 0 in reading.'
-abbrev pub answerOf : Reading → ReadAnswer
+abbrev pub answerOf : Reading → Answer
 answerOf (accepts cs n) = answer.Accepted n 0
 answerOf (refuses why) = answer.Refused why
 
@@ -83,7 +83,7 @@ areaOf area (accepts cs n) = laidTexts area cs
 areaOf area (refuses why) = area
 
 -- what `read` answers, gives, and leaves in the text area
-abbrev pub readAnswer : ℕ → List ℕ → carried.List → List ℕ → List ℕ → ReadAnswer
+abbrev pub readAnswer : ℕ → List ℕ → carried.List → List ℕ → List ℕ → Answer
 readAnswer R format wanted area records = answerOf (reading R format wanted (length area) records)
 
 abbrev pub readList : ℕ → List ℕ → carried.List → List ℕ → List ℕ → carried.List
@@ -92,8 +92,9 @@ readList R format wanted area records = listGiven (reading R format wanted (leng
 abbrev pub readArea : ℕ → List ℕ → carried.List → List ℕ → List ℕ → List ℕ
 readArea R format wanted area records = areaOf area (reading R format wanted (length area) records)
 
--- ---- document 01's number, place, records and starred of a reading, and then of the code's answer: 'A refusal carries number
--- and place, and besides them zero records, zero starred, no values'; 0 where an accepted reading has no number and place
+-- ---- document 01's number, place, records and starred of a reading (those of the code's answer are in `Answers` of `sheet_walk`):
+-- 'A refusal carries number and place, and besides them zero records, zero starred, no values'; 0 where an accepted reading has no
+-- number and place
 
 abbrev pub readingNumber : Reading → ℕ
 readingNumber (accepts cs n) = 0
@@ -110,20 +111,3 @@ readingRecords (refuses why) = 0
 abbrev pub readingStarred : Reading → ℕ
 readingStarred (accepts cs n) = 0
 readingStarred (refuses why) = 0
-
--- the same of the code's answer
-abbrev pub answerNumber : ReadAnswer → ℕ
-answerNumber (answer.Accepted n k) = 0
-answerNumber (answer.Refused why) = refusalNumber why
-
-abbrev pub answerPlace : ReadAnswer → ℕ
-answerPlace (answer.Accepted n k) = 0
-answerPlace (answer.Refused why) = refusalPlace why
-
-abbrev pub answerRecords : ReadAnswer → ℕ
-answerRecords (answer.Accepted n k) = n
-answerRecords (answer.Refused why) = 0
-
-abbrev pub answerStarred : ReadAnswer → ℕ
-answerStarred (answer.Accepted n k) = k
-answerStarred (answer.Refused why) = 0

@@ -1,17 +1,18 @@
 // The public call.
-use crate::ReadAnswer;
 use crate::SheetRead;
 use crate::formats::read_small;
 use list_elements::List;
 use list_elements::apart::usable;
 use list_elements::wanted::take_kinds;
 use read_passes::giving::give;
+use sheet_walk::Answer;
 use sheet_walk::Ending;
 use sheet_walk::Refusal;
 use sheet_walk::WIDEST_RECORD;
 ghost use mathlib.Core.Path.{_≡_};
 ghost use lib.ListN.{length};
-ghost use Rattle.sheet_read.specs.Reading.{reading, readAnswer, readList, readArea, answerNumber, answerPlace, answerRecords, answerStarred, readingNumber, readingPlace, readingRecords, readingStarred};
+ghost use Rattle.sheet_walk.specs.Answers.{answerNumber, answerPlace, answerRecords, answerStarred};
+ghost use Rattle.sheet_read.specs.Reading.{reading, readAnswer, readList, readArea, readingNumber, readingPlace, readingRecords, readingStarred};
 ghost use Rattle.sheet_read.specs.Parts.{refusedRead};
 
 // A refusal carries no values.
@@ -19,7 +20,7 @@ fn refused(refusal: Refusal) -> SheetRead
     ensures { λ r. ⌜ r ≡ refusedRead refusal ⌝ }
 {
     SheetRead {
-        answer: ReadAnswer::Refused(refusal),
+        answer: Answer::Refused(refusal),
         list: List::empty(),
     }
 }
@@ -62,7 +63,7 @@ pub fn read(width: usize, format: &[u8], wanted: List, area: &mut [u8], records:
         Ending::Accepted { records: reached } => {
             let list = give(&kinds[..n], &amounts, &details, records, area);
             SheetRead {
-                answer: ReadAnswer::Accepted {
+                answer: Answer::Accepted {
                     records: reached,
                     starred: 0,
                 },

@@ -1,4 +1,5 @@
 pub mod Refusals
+pub mod Answers
 pub mod Steps
 pub mod Walk
 pub mod Columns

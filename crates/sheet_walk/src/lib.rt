@@ -74,3 +74,9 @@ pub enum Ending {
     Accepted { records: usize },
     Refused(Refusal),
 }
+
+// What writing and reading answer: the records reached and the starred fields, 0 in reading; or a refusal.
+pub enum Answer {
+    Accepted { records: usize, starred: usize },
+    Refused(Refusal),
+}

@@ -30,7 +30,8 @@ use Rattle.sheet_walk.specs.declared.Refusal.{Refusal}
 use Rattle.sheet_walk.specs.declared.Refusal.the-variants.{RecordWidth, Format, NoRecord, TooLarge}
 use Rattle.write_passes.specs.Placed.{valueAt, fieldTooLarge, Judged, refused, judgedAt, judged}
 use Rattle.write_passes.proofs.PlacedLaws.{judged-accepts}
-use Rattle.sheet_write.specs.Writing.{Writing, accepts, refuses, concluded, walked, checkList, checkFormat, writingOf, answerOf, answerNumber, answerPlace}
+use Rattle.sheet_walk.specs.Answers.{answerNumber, answerPlace}
+use Rattle.sheet_write.specs.Writing.{Writing, accepts, refuses, concluded, walked, checkList, checkFormat, writingOf, answerOf}
 use Rattle.sheet_write.specs.Promises.{Call, valuesOf, becomes, answerTo, WidthRight, Walks, walkOf, RoundsWithin, TooLargeAt, AcceptableCall, AnsweredBy}
 use Rattle.sheet_write.proofs.Rounds.{rounds-small}
 use Rattle.sheet_write.proofs.Calls.{width-passed}

@@ -9,7 +9,8 @@ use Rattle.sheet_walk.specs.Laid.{offset, blanked, written, columns}
 use Rattle.sheet_walk.proofs.Windows.{length-laid, drop-laid}
 use Rattle.sheet_walk.proofs.Promises.{columns-kept}
 use Rattle.write_passes.specs.Placed.{characters}
-use Rattle.sheet_write.specs.Writing.{Writing, accepts, answerOf, answerNumber, answerPlace, answerRecords, answerStarred, bufferOf}
+use Rattle.sheet_walk.specs.Answers.{answerNumber, answerPlace, answerRecords, answerStarred}
+use Rattle.sheet_write.specs.Writing.{Writing, accepts, answerOf, bufferOf}
 use Rattle.sheet_write.specs.Promises.{Call, valuesOf, becomes, AcceptableCall, AnsweredBy, AlwaysAnswered, AnsweredOnly, AcceptsExactly, RefusedSo, ElementsPut, PlacedRight, Unrepresentable, Counted, StarsExactlyWhen, NumeralsShown, StarredIsTheirNumber, RecordsReached, LastHolds, BlankElsewhere, ColumnsHold, RestKept}
 use Rattle.sheet_write.proofs.Accepted.{some-reached, room, all-fit, all-suited, puts-all}
 use Rattle.sheet_write.proofs.Answering.{passes, meets-only}

@@ -18,10 +18,11 @@ use Rattle.list_elements.specs.declared.List as carried
 use Rattle.list_elements.specs.declared.ListCheck.{ListCheck}
 use Rattle.list_elements.specs.declared.ListCheck.the-variants.{Good}
 use Rattle.sheet_walk.specs.declared.Refusal.the-variants.{RecordWidth}
-use Rattle.sheet_write.specs.Writing.{Writing, accepts, refuses, checkFormat, writingOf, writing, answerOf, writeAnswer, writeBuffer, writingNumber, writingPlace, writingRecords, writingStarred, answerNumber, answerPlace, answerRecords, answerStarred}
+use Rattle.sheet_walk.specs.Answers.{answerNumber, answerPlace, answerRecords, answerStarred}
+use Rattle.sheet_write.specs.Writing.{Writing, accepts, refuses, checkFormat, writingOf, writing, answerOf, writeAnswer, writeBuffer, writingNumber, writingPlace, writingRecords, writingStarred}
 use Rattle.sheet_write.specs.Parts.{ListedIf, Wrote}
-use Rattle.sheet_write.specs.declared.Written.{Written}
-use Rattle.sheet_write.specs.declared.Written.the-variants as answer
+use Rattle.sheet_walk.specs.declared.Answer.{Answer}
+use Rattle.sheet_walk.specs.declared.Answer.the-variants as answer
 
 -- ---- row 1
 
@@ -34,7 +35,7 @@ module _ (R : ℕ) (format : List ℕ) (check : ListCheck) (vs : List Value) {ar
   unfolding writingOf
   width-over l h = rw (le-leb 1 R l, lt-leb R 255 h) (record { answers = refl; bytes = refl })
 
-  pub width-right : 1 ≤ R → R ≤ 255 → (k : ListCheck) → k ≡ check → {r : Written} {after : List ℕ}
+  pub width-right : 1 ≤ R → R ≤ 255 → (k : ListCheck) → k ≡ check → {r : Answer} {after : List ℕ}
       → Wrote R area vs before (checkFormat R (outcome format) k vs (length before)) r after
       → Wrote R area vs before (writingOf R format check vs (length before)) r after
   unfolding writingOf
@@ -78,7 +79,7 @@ module _ (R : ℕ) (format : List ℕ) (l : carried.List) (area before : List �
   abbrev became : Writing
   became = writing R format l area (length before)
 
-  pub finished : {r : Written} {after : List ℕ} → Wrote R area (values l) before became r after
+  pub finished : {r : Answer} {after : List ℕ} → Wrote R area (values l) before became r after
       → (r ≡ writeAnswer R format l area before)
       × ((after ≡ writeBuffer R format l area before)
       × ((answerNumber r ≡ writingNumber became)

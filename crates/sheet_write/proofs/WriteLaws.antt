@@ -34,8 +34,8 @@ use Rattle.sheet_walk.specs.declared.Ending.the-variants as ending
 use Rattle.write_passes.proofs.PlacedLaws.{judged-ends}
 use Rattle.sheet_write.specs.Writing.{walked, checkBuffer, checkFormat}
 use Rattle.sheet_write.specs.Parts.{Listed, Wrote}
-use Rattle.sheet_write.specs.declared.Written.{Written}
-use Rattle.sheet_write.specs.declared.Written.the-variants as answer
+use Rattle.sheet_walk.specs.declared.Answer.{Answer}
+use Rattle.sheet_walk.specs.declared.Answer.the-variants as answer
 
 -- ---- how the walk ends, from the checking pass's answer
 
@@ -73,7 +73,7 @@ module _ {t area : List ℕ} {vs : List Value} {ws ks : List ℕ} {ms : List ℤ
     wrote-accepted g b s a = rw (accepts g) (record { answers = rw s; bytes = rw (← b) a })
 
 -- under the same sheet
-pub wrote-same : {R : ℕ} {area : List ℕ} {vs : List Value} {before : List ℕ} {r : Written} {after : List ℕ} (g h : Sheet) → g ≡ h
+pub wrote-same : {R : ℕ} {area : List ℕ} {vs : List Value} {before : List ℕ} {r : Answer} {after : List ℕ} (g h : Sheet) → g ≡ h
     → Wrote R area vs before (walked vs (walk g)) r after → Wrote R area vs before (walked vs (walk h)) r after
 wrote-same {R} {area} {vs} {before} {r} {after} g h e w = subst (λ (z : Sheet). Wrote R area vs before (walked vs (walk z)) r after) e w
 
@@ -92,7 +92,7 @@ module _ (R : ℕ) {area : List ℕ} {vs : List Value} {before : List ℕ} (xs :
   pub no-record : length before / R ≡ 0 → Wrote R area vs before (checkBuffer R xs vs (length before)) (answer.Refused refusal.NoRecord) before
   no-record e = rw (eq-eqb (length before / R) 0 e) (record { answers = refl; bytes = refl })
 
-  pub some-record : (length before / R ≡ 0 → ⊥) → {r : Written} {after : List ℕ}
+  pub some-record : (length before / R ≡ 0 → ⊥) → {r : Answer} {after : List ℕ}
       → Wrote R area vs before (walked vs (walk (sheet xs (map kindOf vs) (record { width = R; count = length before / R })))) r after
       → Wrote R area vs before (checkBuffer R xs vs (length before)) r after
   some-record n w = rw (ne-eqb (length before / R) 0 n) w
@@ -105,6 +105,6 @@ module _ (R : ℕ) {area : List ℕ} {vs : List Value} {before : List ℕ} {o : 
       → Wrote R area vs before (checkFormat R o check vs (length before)) (answer.Refused (refusal.Element p)) before
   list-refused e g = rw (e, g) (record { answers = refl; bytes = refl })
 
-  pub both-good : {xs : Items} → o ≡ formats.accepted xs → check ≡ Good → {r : Written} {after : List ℕ}
+  pub both-good : {xs : Items} → o ≡ formats.accepted xs → check ≡ Good → {r : Answer} {after : List ℕ}
       → Wrote R area vs before (checkBuffer R xs vs (length before)) r after → Wrote R area vs before (checkFormat R o check vs (length before)) r after
   both-good e g w = rw (e, g) w

@@ -18,7 +18,7 @@ use Rattle.sheet_walk.specs.Turns.{sheetOf}
 use Rattle.sheet_walk.specs.declared.Records.{Records}
 use Rattle.write_passes.specs.Passes.{Ready}
 use Rattle.sheet_write.specs.Writing.{Writing, walked, checkFormat, answerOf, bufferOf}
-use Rattle.sheet_write.specs.declared.Written.{Written}
+use Rattle.sheet_walk.specs.declared.Answer.{Answer}
 
 -- a loaded run and a good list taken apart, for some list of values
 pub record SomeReady (t area words kinds : List ℕ) (amounts : List ℤ) (details : List ℕ) (rs : Records) : Type 0 where
@@ -42,21 +42,21 @@ pub record SomeListedIf (check : ListCheck) (area kinds : List ℕ) (amounts : L
 
 -- ---- what they do: the answer r, and the buffer afterwards, are those of a writing
 
-pub record Wrote (R : ℕ) (area : List ℕ) (vs : List Value) (before : List ℕ) (w : Writing) (r : Written) (after : List ℕ) : Type 0 where
+pub record Wrote (R : ℕ) (area : List ℕ) (vs : List Value) (before : List ℕ) (w : Writing) (r : Answer) (after : List ℕ) : Type 0 where
   pub answers : r ≡ answerOf vs w
   pub bytes : after ≡ bufferOf R area vs before w
 
 -- under a run of words
-pub record WroteWords (rs : Records) (words : List ℕ) (back : ℕ) (t kinds : List ℕ) (amounts : List ℤ) (details area before : List ℕ) (r : Written) (after : List ℕ) : Type 0 where
+pub record WroteWords (rs : Records) (words : List ℕ) (back : ℕ) (t kinds : List ℕ) (amounts : List ℤ) (details area before : List ℕ) (r : Answer) (after : List ℕ) : Type 0 where
   pub wrote : (vs : List Value) → Ready t area vs words kinds amounts details rs
       → Wrote (rs .width) area vs before (walked vs (walk (sheetOf t words back kinds rs))) r after
 
 -- under the run of a format
-pub record WroteRun (width : ℕ) (t words : List ℕ) (back : ℕ) (check : ListCheck) (kinds : List ℕ) (amounts : List ℤ) (details area before : List ℕ) (r : Written) (after : List ℕ) : Type 0 where
+pub record WroteRun (width : ℕ) (t words : List ℕ) (back : ℕ) (check : ListCheck) (kinds : List ℕ) (amounts : List ℤ) (details area before : List ℕ) (r : Answer) (after : List ℕ) : Type 0 where
   pub wrote : (vs : List Value) (format : List ℕ) → RunHeld format t words back → ListedIf check area vs kinds amounts details
       → Wrote width area vs before (checkFormat width (outcome format) check vs (length before)) r after
 
 -- under a format's text
-pub record WroteText (width : ℕ) (text : List ℕ) (check : ListCheck) (kinds : List ℕ) (amounts : List ℤ) (details area before : List ℕ) (r : Written) (after : List ℕ) : Type 0 where
+pub record WroteText (width : ℕ) (text : List ℕ) (check : ListCheck) (kinds : List ℕ) (amounts : List ℤ) (details area before : List ℕ) (r : Answer) (after : List ℕ) : Type 0 where
   pub wrote : (vs : List Value) → ListedIf check area vs kinds amounts details
       → Wrote width area vs before (checkFormat width (outcome text) check vs (length before)) r after

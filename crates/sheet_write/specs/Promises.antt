@@ -31,8 +31,9 @@ use Rattle.sheet_walk.specs.Laid.{offset, columns}
 use Rattle.sheet_walk.specs.Promises.{EndsWith, Inside, Suited, StopsWith, elementsPut, numbersFrom}
 use Rattle.sheet_walk.specs.declared.Refusal.{Refusal}
 use Rattle.write_passes.specs.Placed.{valueAt, characters}
-use Rattle.sheet_write.specs.Writing.{Writing, accepts, refuses, writing, writeAnswer, writeBuffer, answerNumber, answerPlace, answerRecords, answerStarred}
-use Rattle.sheet_write.specs.declared.Written.{Written}
+use Rattle.sheet_walk.specs.Answers.{answerNumber, answerPlace, answerRecords, answerStarred}
+use Rattle.sheet_write.specs.Writing.{Writing, accepts, refuses, writing, writeAnswer, writeBuffer}
+use Rattle.sheet_walk.specs.declared.Answer.{Answer}
 
 -- ---- what a call is given
 
@@ -51,7 +52,7 @@ valuesOf c = values (c .list)
 abbrev pub becomes : Call → Writing
 becomes c = writing (c .R) (c .format) (c .list) (c .area) (length (c .buffer))
 
-abbrev pub answerTo : Call → Written
+abbrev pub answerTo : Call → Answer
 answerTo c = writeAnswer (c .R) (c .format) (c .list) (c .area) (c .buffer)
 
 abbrev pub starredNumber : Call → ℕ

@@ -21,8 +21,8 @@ use Rattle.sheet_walk.specs.Laid.{written}
 use Rattle.sheet_walk.specs.declared.Refusal.{Refusal}
 use Rattle.sheet_walk.specs.declared.Refusal.the-variants.{RecordWidth, Format, Element, NoRecord}
 use Rattle.write_passes.specs.Placed.{characters, starredIn, Judged, accepted, refused, judged}
-use Rattle.sheet_write.specs.declared.Written.{Written}
-use Rattle.sheet_write.specs.declared.Written.the-variants as answer
+use Rattle.sheet_walk.specs.declared.Answer.{Answer}
+use Rattle.sheet_walk.specs.declared.Answer.the-variants as answer
 
 -- accepted, with the walk and the number of records reached, or refused
 pub data Writing : Type 0 where
@@ -66,7 +66,7 @@ writing R format l area B = writingOf R format (listCheck area l) (values l) B
 -- ---- the answer, and the buffer afterwards
 
 -- 'The result carries the number of records and the number of starred fields'
-abbrev pub answerOf : List Value → Writing → Written
+abbrev pub answerOf : List Value → Writing → Answer
 answerOf vs (accepts t n) = answer.Accepted n (starredIn vs t)
 answerOf vs (refuses why) = answer.Refused why
 
@@ -76,15 +76,16 @@ bufferOf R area vs buffer (accepts t n) = written R (characters area vs) t n buf
 bufferOf R area vs buffer (refuses why) = buffer
 
 -- what `write` answers
-abbrev pub writeAnswer : ℕ → List ℕ → carried.List → List ℕ → List ℕ → Written
+abbrev pub writeAnswer : ℕ → List ℕ → carried.List → List ℕ → List ℕ → Answer
 writeAnswer R format l area buffer = answerOf (values l) (writing R format l area (length buffer))
 
 -- and leaves in the buffer
 abbrev pub writeBuffer : ℕ → List ℕ → carried.List → List ℕ → List ℕ → List ℕ
 writeBuffer R format l area buffer = bufferOf R area (values l) buffer (writing R format l area (length buffer))
 
--- ---- document 01's number, place, records and starred of a writing, and then of the code's answer: 'A refusal carries number
--- and place, and besides them zero records, zero starred'; 0 where an accepted writing has no number and place
+-- ---- document 01's number, place, records and starred of a writing (those of the code's answer are in `Answers` of `sheet_walk`):
+-- 'A refusal carries number and place, and besides them zero records, zero starred'; 0 where an accepted writing has no number
+-- and place
 
 abbrev pub writingNumber : Writing → ℕ
 writingNumber (accepts t n) = 0
@@ -102,20 +103,3 @@ writingRecords (refuses why) = 0
 abbrev pub writingStarred : List Value → Writing → ℕ
 writingStarred vs (accepts t n) = starredIn vs t
 writingStarred vs (refuses why) = 0
-
--- the same of the code's answer
-abbrev pub answerNumber : Written → ℕ
-answerNumber (answer.Accepted n k) = 0
-answerNumber (answer.Refused why) = refusalNumber why
-
-abbrev pub answerPlace : Written → ℕ
-answerPlace (answer.Accepted n k) = 0
-answerPlace (answer.Refused why) = refusalPlace why
-
-abbrev pub answerRecords : Written → ℕ
-answerRecords (answer.Accepted n k) = n
-answerRecords (answer.Refused why) = 0
-
-abbrev pub answerStarred : Written → ℕ
-answerStarred (answer.Accepted n k) = k
-answerStarred (answer.Refused why) = 0

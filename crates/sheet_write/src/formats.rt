@@ -1,10 +1,10 @@
 // Under a format: loaded into arrays that are large enough for it. A local array is cleared at each call, so small ones are
 // tried first.
-use crate::Written;
 use crate::records::write_records;
 use format_load::Loading;
 use format_load::load::load;
 use list_elements::ListCheck;
+use sheet_walk::Answer;
 use sheet_walk::Records;
 use sheet_walk::Refusal;
 ghost use Prim.Native.Nat.{_≤_, _<_};
@@ -23,16 +23,16 @@ fn write_loaded(
     details: &[usize],
     area: &[u8],
     buffer: &mut [u8],
-) -> Written
+) -> Answer
     requires { ⌜ (1 ≤ width) × (width < 256) × SomeRun (now chars) (now words) back × SomeListedIf check (now area) (now kinds) (now amounts) (now details) ⌝ }
     ensures { λ r. ⌜ WroteRun width (now (chars .entry)) (now (words .entry)) back check (now (kinds .entry)) (now (amounts .entry)) (now (details .entry)) (now (area .entry)) (now (buffer .entry)) r (now (buffer .exit)) ⌝ }
 {
     match check {
-        ListCheck::Bad { place } => Written::Refused(Refusal::Element { place }),
+        ListCheck::Bad { place } => Answer::Refused(Refusal::Element { place }),
         ListCheck::Good => {
             let count = buffer.len() / width;
             if count == 0 {
-                return Written::Refused(Refusal::NoRecord);
+                return Answer::Refused(Refusal::NoRecord);
             }
             let rs = Records { width, count };
             write_records(
@@ -60,7 +60,7 @@ fn write_large(
     details: &[usize],
     area: &[u8],
     buffer: &mut [u8],
-) -> Written
+) -> Answer
     requires { ⌜ (1 ≤ width) × (width < 256) × SomeListedIf check (now area) (now kinds) (now amounts) (now details) ⌝ }
     ensures { λ r. ⌜ WroteText width (now (format .entry)) check (now (kinds .entry)) (now (amounts .entry)) (now (details .entry)) (now (area .entry)) (now (buffer .entry)) r (now (buffer .exit)) ⌝ }
 {
@@ -68,9 +68,9 @@ fn write_large(
     let mut chars = [0u8; 1024];
     let mut run = [0u64; 4096];
     match load(format, &mut entries, &mut chars, &mut run) {
-        Loading::Refused(refusal) => Written::Refused(Refusal::Format(refusal)),
+        Loading::Refused(refusal) => Answer::Refused(Refusal::Format(refusal)),
         // No format needs larger ones.
-        Loading::Larger => Written::Refused(Refusal::NoRecord),
+        Loading::Larger => Answer::Refused(Refusal::NoRecord),
         Loading::Run { end, back } => write_loaded(
             width,
             &run[..end],
@@ -96,7 +96,7 @@ fn write_middle(
     details: &[usize],
     area: &[u8],
     buffer: &mut [u8],
-) -> Written
+) -> Answer
     requires { ⌜ (1 ≤ width) × (width < 256) × SomeListedIf check (now area) (now kinds) (now amounts) (now details) ⌝ }
     ensures { λ r. ⌜ WroteText width (now (format .entry)) check (now (kinds .entry)) (now (amounts .entry)) (now (details .entry)) (now (area .entry)) (now (buffer .entry)) r (now (buffer .exit)) ⌝ }
 {
@@ -104,7 +104,7 @@ fn write_middle(
     let mut chars = [0u8; 256];
     let mut run = [0u64; 512];
     match load(format, &mut entries, &mut chars, &mut run) {
-        Loading::Refused(refusal) => Written::Refused(Refusal::Format(refusal)),
+        Loading::Refused(refusal) => Answer::Refused(Refusal::Format(refusal)),
         Loading::Larger => {
             write_large(width, format, check, kinds, amounts, details, area, buffer)
         }
@@ -133,7 +133,7 @@ pub fn write_small(
     details: &[usize],
     area: &[u8],
     buffer: &mut [u8],
-) -> Written
+) -> Answer
     requires { ⌜ (1 ≤ width) × (width < 256) × SomeListedIf check (now area) (now kinds) (now amounts) (now details) ⌝ }
     ensures { λ r. ⌜ WroteText width (now (format .entry)) check (now (kinds .entry)) (now (amounts .entry)) (now (details .entry)) (now (area .entry)) (now (buffer .entry)) r (now (buffer .exit)) ⌝ }
 {
@@ -141,7 +141,7 @@ pub fn write_small(
     let mut chars = [0u8; 64];
     let mut run = [0u64; 64];
     match load(format, &mut entries, &mut chars, &mut run) {
-        Loading::Refused(refusal) => Written::Refused(Refusal::Format(refusal)),
+        Loading::Refused(refusal) => Answer::Refused(Refusal::Format(refusal)),
         Loading::Larger => {
             write_middle(width, format, check, kinds, amounts, details, area, buffer)
         }

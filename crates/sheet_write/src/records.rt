@@ -1,5 +1,5 @@
 // The records written under a run of words: checked first, and laid only where nothing is refused.
-use crate::Written;
+use sheet_walk::Answer;
 use sheet_walk::Ending;
 use sheet_walk::Records;
 use write_passes::checking::check_pass;
@@ -18,12 +18,12 @@ pub fn write_records(
     details: &[usize],
     area: &[u8],
     buffer: &mut [u8],
-) -> Written
+) -> Answer
     requires { ⌜ Roomy rs (length (now buffer)) × SomeReady (now chars) (now area) (now words) (now kinds) (now amounts) (now details) rs ⌝ }
     ensures { λ r. ⌜ WroteWords rs (now (words .entry)) back (now (chars .entry)) (now (kinds .entry)) (now (amounts .entry)) (now (details .entry)) (now (area .entry)) (now (buffer .entry)) r (now (buffer .exit)) ⌝ }
 {
     match check_pass(words, back, kinds, amounts, details, rs) {
-        Ending::Refused(refusal) => Written::Refused(refusal),
+        Ending::Refused(refusal) => Answer::Refused(refusal),
         Ending::Accepted { records } => {
             buffer::fill(buffer, 0, records * rs.width, b' ');
             let starred = lay_pass(
@@ -37,7 +37,7 @@ pub fn write_records(
                 details,
                 rs,
             );
-            Written::Accepted { records, starred }
+            Answer::Accepted { records, starred }
         }
     }
 }

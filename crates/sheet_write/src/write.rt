@@ -1,19 +1,20 @@
 // The public call.
-use crate::Written;
 use crate::formats::write_small;
 use list_elements::List;
 use list_elements::apart::take_apart;
 use list_elements::apart::usable;
+use sheet_walk::Answer;
 use sheet_walk::Refusal;
 use sheet_walk::WIDEST_RECORD;
 ghost use mathlib.Core.Path.{_≡_};
 ghost use lib.ListN.{length};
 ghost use Rattle.list_elements.specs.Elements.{values};
-ghost use Rattle.sheet_write.specs.Writing.{writing, writeAnswer, writeBuffer, answerNumber, answerPlace, answerRecords, answerStarred, writingNumber, writingPlace, writingRecords, writingStarred};
+ghost use Rattle.sheet_walk.specs.Answers.{answerNumber, answerPlace, answerRecords, answerStarred};
+ghost use Rattle.sheet_write.specs.Writing.{writing, writeAnswer, writeBuffer, writingNumber, writingPlace, writingRecords, writingStarred};
 
 // Writes the list, its texts being in the area, under the format into records of this width in the buffer; or refuses, and
 // leaves the buffer as it was. Any width, any bytes, any list.
-pub fn write(width: usize, format: &[u8], list: List, area: &[u8], buffer: &mut [u8]) -> Written
+pub fn write(width: usize, format: &[u8], list: List, area: &[u8], buffer: &mut [u8]) -> Answer
     ensures answers { λ r. ⌜ r ≡ writeAnswer width (now (format .entry)) list (now (area .entry)) (now (buffer .entry)) ⌝ }
     ensures bytes { λ r. ⌜ now (buffer .exit) ≡ writeBuffer width (now (format .entry)) list (now (area .entry)) (now (buffer .entry)) ⌝ }
     ensures number { λ r. ⌜ answerNumber r ≡ writingNumber (writing width (now (format .entry)) list (now (area .entry)) (length (now (buffer .entry)))) ⌝ }
@@ -22,10 +23,10 @@ pub fn write(width: usize, format: &[u8], list: List, area: &[u8], buffer: &mut 
     ensures starred { λ r. ⌜ answerStarred r ≡ writingStarred (values list) (writing width (now (format .entry)) list (now (area .entry)) (length (now (buffer .entry)))) ⌝ }
 {
     if width < 1 {
-        return Written::Refused(Refusal::RecordWidth);
+        return Answer::Refused(Refusal::RecordWidth);
     }
     if WIDEST_RECORD < width {
-        return Written::Refused(Refusal::RecordWidth);
+        return Answer::Refused(Refusal::RecordWidth);
     }
     let count = list.count;
     let mut kinds = [0u64; 64];
