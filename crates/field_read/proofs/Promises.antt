@@ -2,16 +2,15 @@
 -- Assumes nothing.
 use mathlib.Core.Path.{_≡_, refl, ap, _∙_}
 use mathlib.Core.Bool.{false}
-use mathlib.Core.List.{List, [], _∷_, _++_, append-nil}
-use Prim.Native.Nat.{ℕ, zero, suc, _+_, _<_, _≤_}
+use mathlib.Core.List.{List, [], _∷_, _++_}
+use Prim.Native.Nat.{ℕ, zero, suc, _≤_}
 use native.Mathlib.Nat.{not-suc-le-zero}
 use native.Mathlib.Omega.{arith}
-use borrow.Author.Tests.{ne-eqb, lt-ltb}
-use lib.ListN.{length, drop, replicate, length-append}
+use lib.ListN.{drop, replicate, length-append}
 use lib.IntN.{ℤ, natAbs}
 use Rattle.buffer.specs.Characters.{asterisk}
 use Rattle.number.specs.Limits.{largest, mostPlaces}
-use Rattle.number.specs.Digits.{Digits, value}
+use Rattle.number.specs.Digits.{value}
 use Rattle.number.specs.Rounding.{roundedUnits}
 use Rattle.number.proofs.DigitLaws.{digits-append}
 use Rattle.field_written.specs.Numeral.{Setting, Numeric, I, F, places, point, signBytes, signed, Numeral, characters, standsFor}
@@ -19,13 +18,14 @@ use Rattle.field_written.specs.declared.Sign.{Sign}
 use Rattle.field_written.specs.declared.Sign.the-variants.{None, Plus, Minus}
 use Rattle.field_written.specs.Written.{field, starred, decimalField, putRefusal, putStarred}
 use Rattle.field_written.proofs.Promises.{unstarred-is-numeral, Case, large, narrow-case, wide-case, case-of, clash, small-units}
-use Rattle.field_read.specs.Read.{unblanked, beforePoint, fromPoint, numberRead, placesRead, readDigits, readField, readRefusal, readUnits, readPlaces, Gives, shownUnits, shownPlaces}
-use Rattle.field_read.specs.Promises.{NumeralReads, IntegerReadsBack, DecimalReadsBack, StarsRefused, LogicalReadIs, LogicalReadsBack, TextReadLength, TextReadsBack}
+use Rattle.field_read.specs.Read.{unblanked, beforePoint, fromPoint, placesRead, readField, readRefusal, readUnits, readPlaces, Gives, shownUnits, shownPlaces}
+use Rattle.field_read.specs.Promises.{SpellsNumber, without-point, with-point, NumberReadIs, NumeralReads, IntegerReadsBack, DecimalReadsBack, StarsRefused, LogicalReadIs, LogicalReadsBack, TextReadLength, TextReadsBack}
 use Rattle.field_read.specs.declared.FieldRead.{FieldRead}
 use Rattle.field_read.specs.declared.FieldRead.the-variants.{Number, Refused}
 use Rattle.field_read.proofs.Blanks.{unblanked-append, unblanked-blanks, unblanked-digits}
-use Rattle.field_read.proofs.Numbers.{number-good, number-bad, before-digits, before-other, from-digits, at-point}
+use Rattle.field_read.proofs.Numbers.{number-bad, before-other}
 use Rattle.field_read.proofs.Cases.{read-some}
+use Rattle.field_read.proofs.NumberReads
 use Rattle.field_read.proofs.LetterReads
 
 -- ---- without its blanks a numeral is its sign, digits and point
@@ -45,7 +45,7 @@ unblanked-numeral : {g : Setting} {f : Numeric} {w : ℕ} (t : Numeral g f w) �
 unblanked-numeral {g} {f} t =
     simp (unblanked-append, unblanked-blanks, unblanked-sign, unblanked-point, unblanked-digits (t .whole) (t .whole-digits), unblanked-digits (t .fraction) (t .fraction-digits))
 
--- ---- the digits and the point
+-- ---- and so it spells the number that it stands for
 
 natAbs-signed : (s : Sign) (m : ℕ) → natAbs (signed s m) ≡ m
 natAbs-signed None m = refl
@@ -53,50 +53,21 @@ natAbs-signed Plus m = refl
 natAbs-signed Minus zero = refl
 natAbs-signed Minus (suc m) = refl
 
--- one digit at least, within the limits
-good : (s : Sign) (p : ℕ) (x y : List ℕ) → Digits x → Digits y → 0 < length x + length y → length y ≤ 9 → value (x ++ y) ≤ largest → numberRead s p x y ≡ Number (signed s (value (x ++ y))) p
-good s p x y a b n l v =
-    number-good s p x y (digits-append x y a b) l v
-    ∙ simp (ne-eqb (length (x ++ y)) 0 (λ e. omega (arith, length-append x y)))
-
-digits-read : (f : Numeric) (s : Sign) (x y : List ℕ) → Digits x → Digits y → length y ≡ places f → places f ≤ 9 → 0 < length x + length y → value (x ++ y) ≤ largest → readDigits f s (x ++ (point f ++ y)) ≡ Number (signed s (value (x ++ y))) (places f)
-digits-read I s x [] a b e l n v =
-    ap (λ (z : List ℕ). numberRead s 0 z []) (append-nil x) ∙ good s 0 x [] a b n (omega arith) v
-digits-read I s x (c ∷ y) a b e l n v = absurd (omega arith)
-digits-read (F d) s x y a b e l n v =
-    let p : beforePoint (x ++ (46 ∷ y)) ≡ x = before-digits x (46 ∷ y) a ∙ rw (at-point y .0) (append-nil x) in
-    let q : fromPoint (x ++ (46 ∷ y)) ≡ 46 ∷ y = from-digits x (46 ∷ y) a ∙ at-point y .1 in
-    simp (p, q, lt-ltb 0 (suc (length y)) (omega arith)) (rw e (good s d x y a b n (omega arith) v))
-
--- ---- the sign: what follows it begins with a digit or the point
-
-pub record Begins (t : List ℕ) : Type 0 where
-  pub first : ℕ
-  pub rest : List ℕ
-  pub is : t ≡ first ∷ rest
-  pub high : 46 ≤ first
-
-begins : (f : Numeric) (x y : List ℕ) → Digits x → Digits y → 0 < length x + length y → Begins (x ++ (point f ++ y))
-begins f (c ∷ x) y a b n = record { first = c; rest = x ++ (point f ++ y); is = refl; high = omega arith }
-begins I [] [] a b n = absurd (omega arith)
-begins I [] (c ∷ y) a b n = record { first = c; rest = y; is = refl; high = omega arith }
-begins (F d) [] y a b n = record { first = 46; rest = y; is = refl; high = omega arith }
-
-sign-read : (f : Numeric) (s : Sign) (t r : List ℕ) → Begins r → unblanked t ≡ signBytes s ++ r → readField f t ≡ readDigits f s r
-sign-read f None t r h e =
-    let c : ℕ = h .first in
-    read-some f t c (h .rest) (e ∙ h .is)
-    ∙ rw (h .is) (simp (ne-eqb c 43 (λ q. omega (arith, h .high)), ne-eqb c 45 (λ q. omega (arith, h .high))))
-sign-read f Plus t r h e = read-some f t 43 r e
-sign-read f Minus t r h e = read-some f t 45 r e
+numeral-spells : (g : Setting) (f : Numeric) (w : ℕ) (t : Numeral g f w) → places f ≤ mostPlaces → value (t .whole ++ t .fraction) ≤ largest → SpellsNumber (characters t) f (standsFor t) (places f)
+numeral-spells g I w t l h =
+    without-point (t .sign) (t .whole ++ t .fraction) (unblanked-numeral t) (omega (arith, t .some, length-append (t .whole) (t .fraction))) (digits-append (t .whole) (t .fraction) (t .whole-digits) (t .fraction-digits)) h
+numeral-spells g (F d) w t l h =
+    rw (← t .exactly) (with-point (t .sign) (t .whole) (t .fraction) (unblanked-numeral t) (omega (arith, t .some, length-append (t .whole) (t .fraction))) (t .whole-digits) (t .fraction-digits) (omega (arith, l, t .exactly)) h)
 
 -- ---- the promises
+
+pub number-read-is : NumberReadIs
+number-read-is = NumberReads.number-read-is
 
 numeral-read : (g : Setting) (f : Numeric) (w : ℕ) (t : Numeral g f w) → places f ≤ mostPlaces → natAbs (standsFor t) ≤ largest → readField f (characters t) ≡ Number (standsFor t) (places f)
 numeral-read g f w t l h =
     let m : value (t .whole ++ t .fraction) ≤ largest = rw (natAbs-signed (t .sign) (value (t .whole ++ t .fraction))) at h in
-    sign-read f (t .sign) (characters t) _ (begins f (t .whole) (t .fraction) (t .whole-digits) (t .fraction-digits) (t .some)) (unblanked-numeral t)
-    ∙ digits-read f (t .sign) (t .whole) (t .fraction) (t .whole-digits) (t .fraction-digits) (t .exactly) l (t .some) m
+    number-read-is f (characters t) (standsFor t) (places f) .1 (numeral-spells g f w t l m)
 
 gives : {r : FieldRead} {u : ℤ} {p : ℕ} → r ≡ Number u p → Gives r u p
 gives e = record { accepted = ap readRefusal e; units = ap readUnits e; places-read = ap readPlaces e }

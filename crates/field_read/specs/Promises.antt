@@ -6,17 +6,36 @@ use mathlib.Core.Bool.{Bool, true, false, cond}
 use mathlib.Core.List.{List, [], _∷_, _++_}
 use Prim.Native.Nat.{ℕ, _<_, _≤_}
 use lib.ListN.{length, replicate}
-use lib.IntN.{ℤ, natAbs}
+use lib.IntN.{ℤ, pos, natAbs}
 use Rattle.buffer.specs.Characters.{blank, asterisk, decimalPoint, allPrintable}
 use Rattle.number.specs.Limits.{largest, mostPlaces}
-use Rattle.field_written.specs.Numeral.{Setting, Numeric, I, F, places, Numeral, characters, standsFor}
+use Rattle.number.specs.Digits.{Digits, value}
+use Rattle.field_written.specs.Numeral.{Setting, Numeric, I, F, places, signBytes, signed, Numeral, characters, standsFor}
+use Rattle.field_written.specs.declared.Sign.{Sign}
 use Rattle.field_written.specs.Written.{field, starred, decimalField, putDecimal, putRefusal, putStarred}
 use Rattle.field_written.specs.LogicalField.{letter, logicalField}
 use Rattle.field_written.specs.TextField.{textField}
-use Rattle.field_read.specs.Read.{readField, readRefusal, Gives, shownInteger, shownUnits, shownPlaces}
+use Rattle.field_read.specs.Read.{unblanked, readField, readRefusal, Gives, shownInteger, shownUnits, shownPlaces}
 use Rattle.field_read.specs.LogicalRead.{logicalRead}
 use Rattle.field_read.specs.TextRead.{textReadable, textRead, shownText}
+use Rattle.field_read.specs.declared.FieldRead.the-variants.{Number}
 use Rattle.field_read.specs.declared.LogicalRead.the-variants.{Truth}
+
+-- What the field t spells under I or under F: a number's units and its places (0 for I).
+pub data SpellsNumber (t : List ℕ) : Numeric → ℤ → ℕ → Type 0 where
+  -- 'drop all blanks; nothing left means 0 (for F with d places)'
+  nothing-left : {f : Numeric} → unblanked t ≡ [] → SpellsNumber t f (pos 0) (places f)
+  -- 'optional sign, one or more digits'; for F, 'without [a point], places is d'
+  without-point :
+      {f : Numeric} (sign : Sign) (digits : List ℕ) → unblanked t ≡ signBytes sign ++ digits → 1 ≤ length digits → Digits digits → value digits ≤ largest → SpellsNumber t f (signed sign (value digits)) (places f)
+  -- 'F: optional sign, digits with at most one point, at least one digit; with a point, places is the count after it, at most 9'.
+  -- Both: 'magnitude of n or units at most 10^18 − 1'.
+  with-point :
+      {d : ℕ} (sign : Sign) (whole fraction : List ℕ) → unblanked t ≡ signBytes sign ++ (whole ++ (decimalPoint ∷ fraction)) → 1 ≤ length (whole ++ fraction) → Digits whole → Digits fraction → length fraction ≤ mostPlaces → value (whole ++ fraction) ≤ largest → SpellsNumber t (F d) (signed sign (value (whole ++ fraction))) (length fraction)
+
+-- a field is read as u with p places exactly when it so spells it
+abbrev pub NumberReadIs : Type 0
+NumberReadIs = (f : Numeric) (t : List ℕ) (u : ℤ) (p : ℕ) → (readField f t ≡ Number u p) ↔ SpellsNumber t f u p
 
 -- every numeral of width w, within the limits, reads back as the number that it stands for, under F with d places
 abbrev pub NumeralReads : Type 0
