@@ -17,7 +17,7 @@ use Rattle.sheet_walk.specs.Refusals.{refusalPlace}
 use Rattle.sheet_walk.specs.Steps.{What, element, literal, Placement, Step, moves, covers, refused, ends, start, step, endStep}
 use Rattle.sheet_walk.specs.Walk.{Sheet, sheet, Trace, put, done, stopped, after, pass, returns, atEnd, walk}
 use Rattle.sheet_walk.specs.Columns.{In, here, there}
-use Rattle.sheet_walk.specs.Promises.{StopsWith, RefusedThere, RefusedBecause, ItemRefused, EndRefused, LiteralsWide, Walkable, EndsWith, Inside, Suited, placeOf, elementsPut, numbersFrom, CoversInside, CoversReached, ElementsSuited, PutsEach}
+use Rattle.sheet_walk.specs.Promises.{StopsWith, Comes, RefusedThere, RefusedBecause, ItemRefused, EndRefused, LiteralsWide, Walkable, EndsWith, Inside, Suited, placeOf, elementsPut, numbersFrom, CoversInside, CoversReached, ElementsSuited, PutsEach}
 use Rattle.sheet_walk.proofs.StepLaws.{fieldsOf, fieldsIn, Moved, CoveredBy, Covered, Does, step-does, AtEnd, end-does}
 
 -- ---- the sheet of an accepted format
@@ -63,45 +63,48 @@ module _ (h : Sheet) (P : State → Trace → Type 0)
     (puts : (x : Met) (s n : State) (p : Placement) (t : Trace) → Stands h s → Covered (h .kinds) (h .records) x s p n → P n t → P s (put p t))
     (finishes : (s : State) → Stands h s → s .taken ≡ length (h .kinds) → P s (done (s .row + 1)))
     (stops : (s : State) (why : Refusal) → RefusedThere h s why → P s (stopped why)) where
-  every-step : (x : Met) (st : Step) (s : State) (next : State → Trace) → Stands h s → (Walkable h → MetWithin x) → Does (h .kinds) (h .records) x s st
-      → ((n : State) → Stands h n → n .taken ≡ s .taken + fieldsOf x → P n (next n)) → P s (after st s next)
-  every-step x (moves n) s next i within d rest =
-      goes s n (next n) (d .0 .row-on) (omega arith) (rest n (moved-stands h x s n i within (d .0) (omega arith)) (d .0 .takes))
-  every-step x (covers p n) s next i within d rest =
+  every-step : (x : Met) (xs : List Met) (st : Step) (s : State) (next : State → Trace) → Comes h (x ∷ xs) s → step (h .kinds) (h .records) x s ≡ st
+      → Stands h s → (Walkable h → MetWithin x) → Does (h .kinds) (h .records) x s st
+      → ((n : State) → Comes h xs n → Stands h n → n .taken ≡ s .taken + fieldsOf x → P n (next n)) → P s (after st s next)
+  every-step x xs (moves n) s next c e i within d rest =
+      goes s n (next n) (d .0 .row-on) (omega arith) (rest n (Comes.moved c e) (moved-stands h x s n i within (d .0) (omega arith)) (d .0 .takes))
+  every-step x xs (covers p n) s next c e i within d rest =
       puts x s n p (next n) i d
-      (rest n (moved-stands h x s n i within (d .moved) (few-covered (h .kinds) x s (p .width) (p .what) (d .by) (i .few))) (d .moved .takes))
-  every-step x (refused why) s next i within d rest = stops s why (RefusedThere.at-item d)
-  every-step x ends s next i within d rest = finishes s i (omega arith)
+      (rest n (Comes.covered c e) (moved-stands h x s n i within (d .moved) (few-covered (h .kinds) x s (p .width) (p .what) (d .by) (i .few)))
+      (d .moved .takes))
+  every-step x xs (refused why) s next c e i within d rest = stops s why (RefusedThere.at-item c d)
+  every-step x xs ends s next c e i within d rest = finishes s i (omega arith)
 
-  every-pass : (next : State → Trace) (xs : List Met) (s : State) → Stands h s → (Walkable h → AllMetWithin xs)
-      → ((n : State) → Stands h n → n .taken ≡ s .taken + fieldsIn xs → P n (next n)) → P s (pass h next xs s)
+  every-pass : (next : State → Trace) (xs : List Met) (s : State) → Comes h xs s → Stands h s → (Walkable h → AllMetWithin xs)
+      → ((n : State) → Comes h [] n → Stands h n → n .taken ≡ s .taken + fieldsIn xs → P n (next n)) → P s (pass h next xs s)
   unfolding pass fieldsIn
-  every-pass next [] s i within rest = rest s i (omega arith)
-  every-pass next (x ∷ xs) s i within rest =
-      every-step x (step (h .kinds) (h .records) x s) s (pass h next xs) i (λ w. within w .0) (step-does (h .kinds) (h .records) s x)
-      (λ n j t. every-pass next xs n j (λ w. within w .1) (λ m k u. rest m k (omega arith)))
+  every-pass next [] s c i within rest = rest s c i (omega arith)
+  every-pass next (x ∷ xs) s c i within rest =
+      every-step x xs (step (h .kinds) (h .records) x s) s (pass h next xs) c refl i (λ w. within w .0) (step-does (h .kinds) (h .records) s x)
+      (λ n c₁ j t. every-pass next xs n c₁ j (λ w. within w .1) (λ m c₂ k u. rest m c₂ k (omega arith)))
 
-  every-end : (st : Step) (s : State) (next : State → Trace) → Stands h s → AtEnd (h .kinds) (h .records) s (h .part) st
-      → ((n : State) → Stands h n → n .taken ≡ s .taken → 1 ≤ fieldsIn (h .part) → P n (next n)) → P s (after st s next)
-  every-end (moves n) s next i d rest =
+  every-end : (st : Step) (s : State) (next : State → Trace) → Comes h [] s → endStep (h .kinds) (h .records) (h .part) s ≡ st
+      → Stands h s → AtEnd (h .kinds) (h .records) s (h .part) st
+      → ((n : State) → Comes h (h .part) n → Stands h n → n .taken ≡ s .taken → 1 ≤ fieldsIn (h .part) → P n (next n)) → P s (after st s next)
+  every-end (moves n) s next c e i d rest =
       goes s n (next n) (d .0 .row-on) (omega (arith, d .0 .takes))
-      (rest n (moved-stands h Met.slash s n i (λ w. tt) (d .0) (omega arith)) (omega (arith, d .0 .takes)) (d .1))
-  every-end (covers p n) s next i d rest = absurd d
-  every-end (refused why) s next i d rest = stops s why (RefusedThere.at-end d)
-  every-end ends s next i d rest = finishes s i (omega arith)
+      (rest n (Comes.returned c e) (moved-stands h Met.slash s n i (λ w. tt) (d .0) (omega arith)) (omega (arith, d .0 .takes)) (d .1))
+  every-end (covers p n) s next c e i d rest = absurd d
+  every-end (refused why) s next c e i d rest = stops s why (RefusedThere.at-end c d)
+  every-end ends s next c e i d rest = finishes s i (omega arith)
 
-  every-return : (k : ℕ) (s : State) → Stands h s → length (h .kinds) ≤ s .taken + k → P s (returns h k s)
+  every-return : (k : ℕ) (s : State) → Comes h [] s → Stands h s → length (h .kinds) ≤ s .taken + k → P s (returns h k s)
   unfolding returns
-  every-return zero s i l = finishes s i (omega arith)
-  every-return (suc k) s i l =
-      every-end (endStep (h .kinds) (h .records) (h .part) s) s (pass h (returns h k) (h .part)) i (end-does (h .kinds) (h .records) s (h .part))
-      (λ n j t some. every-pass (returns h k) (h .part) n j (λ w. w .part-within) (λ m j₁ u. every-return k m j₁ (omega arith)))
+  every-return zero s c i l = finishes s i (omega arith)
+  every-return (suc k) s c i l =
+      every-end (endStep (h .kinds) (h .records) (h .part) s) s (pass h (returns h k) (h .part)) c refl i (end-does (h .kinds) (h .records) s (h .part))
+      (λ n c₁ j t some. every-pass (returns h k) (h .part) n c₁ j (λ w. w .part-within) (λ m c₂ j₁ u. every-return k m c₂ j₁ (omega arith)))
 
   pub every : P start (walk h)
   unfolding walk atEnd
   every =
-      every-pass (atEnd h) (h .items) start (start-stands h) (λ w. w .items-within)
-      (λ n j t. every-return (length (h .kinds)) n j (omega arith))
+      every-pass (atEnd h) (h .items) start Comes.begins (start-stands h) (λ w. w .items-within)
+      (λ n c j t. every-return (length (h .kinds)) n c j (omega arith))
 
 -- ---- the placements and the end of a walk
 
@@ -244,8 +247,8 @@ end-place (EndRefused.no-field a b) = refl
 end-place (EndRefused.no-record a b l) = refl
 
 there-place : {h : Sheet} {s : State} {why : Refusal} → RefusedThere h s why → refusalPlace why ≡ s .taken
-there-place (RefusedThere.at-item r) = item-place r
-there-place (RefusedThere.at-end r) = end-place r
+there-place (RefusedThere.at-item c r) = item-place r
+there-place (RefusedThere.at-end c r) = end-place r
 
 -- from s on the walk is refused at u
 pub record Stops (h : Sheet) (s : State) (t : Trace) (why : Refusal) : Type 0 where

@@ -1,6 +1,6 @@
 -- The theorems on the walk that specs/Promises.antt states.
 -- Assumes nothing.
-use Rattle.sheet_walk.specs.Promises.{EndIs, ReturnTakes, ItemRefusedIs, EndRefusedIs, CoversInside, CoversReached, ElementsSuited, PutsEach, LiteralsWide, RecordsBeyond, RefusedBecause, CoveredTwiceIs, ColumnsKept}
+use Rattle.sheet_walk.specs.Promises.{EndIs, ReturnTakes, ItemRefusedIs, EndRefusedIs, CoversInside, CoversReached, ElementsSuited, PutsEach, LiteralsWide, RecordsBeyond, RefusedBecause, RefusedOnlyThere, CoveredTwiceIs, ColumnsKept}
 use Rattle.sheet_walk.proofs.Returns
 use Rattle.sheet_walk.proofs.Refusing
 use Rattle.sheet_walk.proofs.Covering
@@ -46,6 +46,9 @@ records-beyond = Beyond.records-beyond
 
 pub refused-because : RefusedBecause
 refused-because = Covering.refused-because
+
+pub refused-only-there : RefusedOnlyThere
+refused-only-there = Refusing.refused-only-there
 
 -- ---- columns covered twice
 

@@ -11,7 +11,7 @@ use Rattle.format_grammar.specs.Met.{Met}
 use Rattle.format_grammar.specs.Promises.{AllMetWithin}
 use Rattle.list_elements.specs.Elements.{Kind, integer}
 use Rattle.sheet_walk.specs.Refusals.{refusalPlace}
-use Rattle.sheet_walk.specs.Steps.{What, element, literal, Placement, suits, fieldWidth, refused, step, hasField, endStep}
+use Rattle.sheet_walk.specs.Steps.{What, element, literal, Placement, suits, fieldWidth, moves, covers, refused, start, step, hasField, endStep}
 use Rattle.sheet_walk.specs.Walk.{Sheet, Trace, put, done, stopped, return, atEnd, walk}
 use Rattle.sheet_walk.specs.Columns.{In, CoveredTwice, coveredTwice}
 use Rattle.sheet_walk.specs.Laid.{laid, columns}
@@ -130,17 +130,28 @@ pub data StopsWith (why : Refusal) : Trace → Type 0 where
   here : StopsWith why (stopped why)
   there : {p : Placement} {t : Trace} → StopsWith why t → StopsWith why (put p t)
 
--- for the reason of an item, or that of the end of the format, at a state
-pub data RefusedThere (h : Sheet) (s : State) (why : Refusal) : Type 0 where
-  at-item : {x : Met} → ItemRefused (h .kinds) (h .records) s x why → RefusedThere h s why
-  at-end : EndRefused (h .kinds) (h .records) (h .part) s why → RefusedThere h s why
+-- the walk comes to the state s, with the items xs still to be met before the end of the format
+pub data Comes (h : Sheet) : List Met → State → Type 0 where
+  begins : Comes h (h .items) start
+  moved : {x : Met} {xs : List Met} {s n : State} → Comes h (x ∷ xs) s → step (h .kinds) (h .records) x s ≡ moves n → Comes h xs n
+  covered : {x : Met} {xs : List Met} {s n : State} {p : Placement} → Comes h (x ∷ xs) s → step (h .kinds) (h .records) x s ≡ covers p n → Comes h xs n
+  returned : {s n : State} → Comes h [] s → endStep (h .kinds) (h .records) (h .part) s ≡ moves n → Comes h (h .part) n
 
--- where so many elements were taken as are put before, which is the refusal's place
+-- the walk comes to s, where the next item, or the end of the format, is refused
+pub data RefusedThere (h : Sheet) (s : State) (why : Refusal) : Type 0 where
+  at-item : {x : Met} {xs : List Met} → Comes h (x ∷ xs) s → ItemRefused (h .kinds) (h .records) s x why → RefusedThere h s why
+  at-end : Comes h [] s → EndRefused (h .kinds) (h .records) (h .part) s why → RefusedThere h s why
+
+-- a refused walk comes to such a state, where so many elements were taken as are put before, which is the refusal's place
 abbrev pub RefusedBecause : Type 0
 RefusedBecause =
     (h : Sheet) (why : Refusal) → StopsWith why (walk h) → (s : State) × RefusedThere h s why
     × (s .taken ≡ length (elementsPut (walk h)))
     × (refusalPlace why ≡ s .taken)
+
+-- and a walk that comes to such a state is refused, for that reason
+abbrev pub RefusedOnlyThere : Type 0
+RefusedOnlyThere = (h : Sheet) (s : State) (why : Refusal) → RefusedThere h s why → StopsWith why (walk h)
 
 -- ---- columns covered twice
 
