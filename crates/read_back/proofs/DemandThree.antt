@@ -29,8 +29,8 @@ use Rattle.sheet_walk.specs.Answers.{answerNumber, answerPlace, answerRecords}
 use Rattle.sheet_read.specs.Reading.{accepts, refuses, concluded, answerOf, listGiven, areaOf}
 use Rattle.sheet_read.specs.Promises as reading
 use Rattle.sheet_read.specs.Promises.{answerTo, contentsAfter, kindsOf}
-use Rattle.read_back.specs.DemandThree.{Accepted, StarredField, FirstStarred, ReadsBack, shownValues, DemandThree}
-use Rattle.read_back.proofs.Gathering.{Back, test-starred, starred-test, find-first, first-starred, gathered-shown, gathered-first, kinds-shown, kinds-numbered}
+use Rattle.read_back.specs.DemandThree.{Accepted, StarredField, FirstStarred, ReadsBack, shownValues, ShownEach, DemandThree}
+use Rattle.read_back.proofs.Gathering.{Back, test-starred, starred-test, find-first, first-starred, gathered-shown, gathered-first, shown-at, kinds-shown, kinds-numbered}
 use Rattle.read_back.proofs.Placed.{acceptable, shown-kinds, all-back}
 use Rattle.read_back.proofs.Rows.{read-is}
 
@@ -65,19 +65,20 @@ their-number c t e = counted-alike (starred-is-their-number c t (recordsNumber c
 -- ---- reading back
 
 module _ (c : writing.Call) (t : Trace) (e : Accepted c t) where
-  -- the shown values are of the kinds of the list, and at most 64
+  -- the shown values are of the kinds of the list, as many, and at most 64
   kinds-are : map contentKind (shownValues c t) ≡ map kindOf (valuesOf c)
   kinds-are =
       kinds-shown c (map kindOf (valuesOf c)) t (shown-kinds c t e)
       ∙ ap (map (kindAt (map kindOf (valuesOf c)))) (elements-put c t (recordsNumber c) e ∙ ap (numbersFrom 0) (sym (length-map (valuesOf c) kindOf)))
       ∙ kinds-numbered (map kindOf (valuesOf c))
 
+  as-many : length (shownValues c t) ≡ length (valuesOf c)
+  as-many = sym (length-map (shownValues c t) contentKind) ∙ ap length kinds-are ∙ length-map (valuesOf c) kindOf
+
   few : length (shownValues c t) ≤ mostElements
   few =
       let g = check-good (withinLimits (c .area)) (c .list) (acceptable c t e .walks .list) .1 in
-      let l : length (shownValues c t) ≡ length (valuesOf c) =
-      sym (length-map (shownValues c t) contentKind) ∙ ap length kinds-are ∙ length-map (valuesOf c) kindOf in
-      omega (arith, values-most (c .list))
+      omega (arith, as-many, values-most (c .list))
 
   module _ (once : (r k : ℕ) → CoveredTwice r k t → ⊥) (b : reading.Call) (r : ReadsBack c b) where
     -- each field gives its shown value back, or nothing where it is starred
@@ -127,11 +128,19 @@ module _ (c : writing.Call) (t : Trace) (e : Accepted c t) where
           ap (λ w. answerPlace (answerOf w)) is,
         )
 
+-- ---- the theorems
+
+pub shown-each : ShownEach
+shown-each c t e = (
+  as-many c t e,
+  (λ p m i f q. shown-at c m 0 (length (valuesOf c)) (elements-put c t (recordsNumber c) e) i i f q (omega arith)),
+)
+
 pub demand-three : DemandThree
 demand-three =
     record {
       exactly-when = λ c t e. stars-exactly-when c t (recordsNumber c) e;
       their-number = their-number;
-      shown-back = shown-back;
-      refused-at-first = refused-at-first;
+      shown-back = λ c t b w. shown-back c t (w .accepted) (w .once) b (w .back);
+      refused-at-first = λ c t b w. refused-at-first c t (w .accepted) (w .once) b (w .back);
     }

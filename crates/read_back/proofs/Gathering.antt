@@ -5,7 +5,7 @@ use mathlib.Core.Bool.{Bool, true, false, cond}
 use mathlib.Core.List.{List, [], _∷_, map}
 use Prim.Native.Nat.{ℕ, zero, suc, _+_, _≤_}
 use native.Mathlib.Omega.{arith}
-use lib.ListN.{length, drop}
+use lib.ListN.{length, drop, getD}
 use lib.Seq.{getD-drop, drop-drop}
 use Rattle.format_grammar.specs.Items.{Field}
 use Rattle.list_elements.specs.Elements.{Kind, integer}
@@ -167,6 +167,26 @@ module _ (c : writing.Call) where
         unstarred-front p (all p here) u (gathered R kinds records t)
         ∙ ap (before p (p .what)) (gathered-first f (λ q m. all q (there m)))
         ∙ before-refused p (p .what) (FieldText i)
+
+  -- ---- the shown value of each element
+
+  -- elements being put from place k on, that of the element at k + j has the place j
+  pub shown-at : {p : Placement} {t : Trace} → In p t → (k n : ℕ) → elementsPut t ≡ numbersFrom k n → (j i : ℕ) (f : Field ℕ) → p .what ≡ element i f → i ≡ k + j
+      → (past : Content) → getD (shownValues c t) j past ≡ shownAt p i f
+  unfolding shownValues elementsPut
+  shown-at here k n e zero i f q l past = rw q
+  shown-at here k n e (suc j) i f q l past = let s : i ≡ k = front-number k n (rw q at e) .0 in absurd (omega arith)
+  shown-at {p} (there {q = r} {t} m) k n e j i f q l past = go (r .what) j e l (λ h a u b v. shown-at m h a u b i f q v past)
+    where
+      go : (what : What) (y : ℕ) → placeOf what (elementsPut t) ≡ numbersFrom k n → i ≡ k + y
+          → ((h a : ℕ) → elementsPut t ≡ numbersFrom h a → (b : ℕ) → i ≡ h + b → getD (shownValues c t) b past ≡ shownAt p i f)
+          → getD (shownInFront c r what (shownValues c t)) y past ≡ shownAt p i f
+      go (element h g) zero u v rest =
+          let s = front-number k n u .1 in
+          let low = put-from m (k + 1) (s .0) (s .1) i f q in
+          absurd (omega arith)
+      go (element h g) (suc y) u v rest = let s = front-number k n u .1 in rest (k + 1) (s .0) (s .1) y (omega arith)
+      go (literal cs) y u v rest = rest k n u y v
 
   -- ---- the kinds of the shown values
 

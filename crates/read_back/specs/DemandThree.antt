@@ -5,7 +5,7 @@ use mathlib.Core.Logic.{_↔_}
 use mathlib.Core.Bool.{true}
 use mathlib.Core.List.{List, [], _∷_, _++_, map}
 use Prim.Native.Nat.{ℕ, _*_, _≤_}
-use lib.ListN.{length, take, replicate}
+use lib.ListN.{length, take, getD, replicate}
 use Rattle.buffer.specs.Characters.{asterisk}
 use Rattle.format_grammar.specs.Items.{Field}
 use Rattle.list_elements.specs.Elements.{kindOf}
@@ -65,6 +65,12 @@ pub record ReadsBack (c : writing.Call) (b : reading.Call) : Type 0 where
   pub same-records : b .records ≡ take (recordsNumber c * c .R) (bufferAfter c) ++ following
   pub room : textsLength (kindsOf b) ≤ length (b .area)
 
+-- 'For every such writing where no column of a record is covered twice, its records are read back'
+pub record WrittenAndRead (c : writing.Call) (t : Trace) (b : reading.Call) : Type 0 where
+  pub accepted : Accepted c t
+  pub once : (r k : ℕ) → CoveredTwice r k t → ⊥
+  pub back : ReadsBack c b
+
 -- 'the whole list of shown values': that of each element in the order of the walk, which is list order (`ElementsPut`)
 abbrev pub shownInFront : writing.Call → Placement → What → List Content → List Content
 shownInFront c p (element i f) rest = shown f (p .width) (contentOf (c .area) (valueAt (valuesOf c) i)) ∷ rest
@@ -75,6 +81,14 @@ shownValues c (put p t) = shownInFront c p (p .what) (shownValues c t)
 shownValues c (done n) = []
 shownValues c (stopped why) = []
 
+-- the list of shown values is whole: it has as many values as the list written, and at the place of each element the value that
+-- its field shows, whatever value is taken past the end
+abbrev pub ShownEach : Type 0
+ShownEach =
+    (c : writing.Call) (t : Trace) → Accepted c t → (length (shownValues c t) ≡ length (valuesOf c))
+    × ((p : Placement) → In p t → (i : ℕ) (f : Field ℕ) → p .what ≡ element i f → (past : Content)
+    → getD (shownValues c t) i past ≡ shown f (p .width) (contentOf (c .area) (valueAt (valuesOf c) i)))
+
 -- ---- the demand
 
 pub record DemandThree : Type 0 where
@@ -84,12 +98,9 @@ pub record DemandThree : Type 0 where
       → numeric f ≡ true → (puts c p ≡ replicate (p .width) asterisk) ↔ NoNumeral (valueAt (valuesOf c) i) f
   -- 'The starred number in the result is the number of these fields.'
   pub their-number : (c : writing.Call) (t : Trace) → Accepted c t → Counted (StarredField c) t (starredNumber c)
-  -- 'For every such writing where no column of a record is covered twice, its records are read back .. If no field is starred,
-  -- reading gives exactly the whole list of shown values and the same number of records.'
-  pub shown-back : (c : writing.Call) (t : Trace) → Accepted c t → ((r k : ℕ) → CoveredTwice r k t → ⊥) → (b : reading.Call) → ReadsBack c b
-      → ((p : Placement) → In p t → StarredField c p → ⊥)
+  -- 'If no field is starred, reading gives exactly the whole list of shown values and the same number of records.'
+  pub shown-back : (c : writing.Call) (t : Trace) (b : reading.Call) → WrittenAndRead c t b → ((p : Placement) → In p t → StarredField c p → ⊥)
       → (answerNumber (answerTo b) ≡ 0) × (contentsAfter b ≡ shownValues c t) × (answerRecords (answerTo b) ≡ recordsNumber c)
   -- 'If some are, reading is refused with 12 at the element of the first starred one in list order.'
-  pub refused-at-first : (c : writing.Call) (t : Trace) → Accepted c t → ((r k : ℕ) → CoveredTwice r k t → ⊥) → (b : reading.Call) → ReadsBack c b
-      → (p : Placement) → In p t → StarredField c p
+  pub refused-at-first : (c : writing.Call) (t : Trace) (b : reading.Call) → WrittenAndRead c t b → (p : Placement) → In p t → StarredField c p
       → (i : ℕ) × FirstStarred c t i × (answerNumber (answerTo b) ≡ 12) × (answerPlace (answerTo b) ≡ i)

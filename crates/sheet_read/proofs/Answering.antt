@@ -17,6 +17,8 @@ use Rattle.list_elements.specs.Limits.{wantedCheck, textsLength}
 use Rattle.list_elements.specs.declared.ListCheck.{ListCheck}
 use Rattle.list_elements.specs.declared.ListCheck.the-variants.{Good, Bad}
 use Rattle.sheet_walk.specs.Steps.{widthRight}
+use Rattle.sheet_walk.specs.Promises.{WidthRight}
+use Rattle.sheet_walk.proofs.WidthLaws.{width-passed}
 use Rattle.sheet_walk.specs.Walk.{Trace}
 use Rattle.sheet_walk.specs.declared.Refusal.{Refusal}
 use Rattle.sheet_walk.specs.declared.Refusal.the-variants.{RecordWidth, Format, NoRecord, TextArea, FieldText}
@@ -24,8 +26,8 @@ use Rattle.read_passes.specs.Given.{gathered}
 use Rattle.read_passes.proofs.GatheredLaws.{Refuses, gathers-so, refuses-so, readable-gathers, readable-refuses}
 use Rattle.sheet_walk.specs.Answers.{answerNumber, answerPlace}
 use Rattle.sheet_read.specs.Reading.{Reading, accepts, refuses, concluded, checkRecords, checkArea, checkWanted, checkFormat, readingOf, answerOf}
-use Rattle.sheet_read.specs.Promises.{Call, kindsOf, becomes, answerTo, WidthRight, ListPassed, Walks, walkOf, UnreadableAt, AcceptableCall, AnsweredBy}
-use Rattle.sheet_read.proofs.Calls.{GathersOn, RefusesOn, width-passed}
+use Rattle.sheet_read.specs.Promises.{Call, kindsOf, becomes, answerTo, ListPassed, Walks, walkOf, UnreadableAt, AcceptableCall, AnsweredBy}
+use Rattle.sheet_read.proofs.Calls.{GathersOn, RefusesOn}
 
 -- the first field that gives nothing refuses the walk
 unreadable-refuses : (c : Call) {i : ℕ} {t : Trace} → UnreadableAt c i t → RefusesOn c t (FieldText i)
@@ -35,11 +37,11 @@ unreadable-refuses c (UnreadableAt.there r u) = Refuses.after r (unreadable-refu
 -- ---- what becomes of a call that passes the rows before
 
 module _ (c : Call) where
-  past-width : WidthRight c → becomes c ≡ checkFormat (c .R) (formats.outcome (c .format)) (wantedCheck (c .wanted)) (kindsOf c) (length (c .area)) (c .records)
+  past-width : WidthRight (c .R) → becomes c ≡ checkFormat (c .R) (formats.outcome (c .format)) (wantedCheck (c .wanted)) (kindsOf c) (length (c .area)) (c .records)
   unfolding readingOf
   past-width w = rw (le-leb 1 (c .R) (w .from), le-leb (c .R) 255 (w .to))
 
-  past-format : (xs : Items) → WidthRight c → Acceptable (c .format) xs → (k : ListCheck) → wantedCheck (c .wanted) ≡ k
+  past-format : (xs : Items) → WidthRight (c .R) → Acceptable (c .format) xs → (k : ListCheck) → wantedCheck (c .wanted) ≡ k
       → becomes c ≡ checkWanted (c .R) xs k (kindsOf c) (length (c .area)) (c .records)
   past-format xs w f k e = past-width w ∙ rw (grammar.accepts-exactly (c .format) xs .1 f, e)
 
@@ -63,13 +65,13 @@ module _ (c : Call) where
   walk-refuses : (xs : Items) (why : Refusal) → Walks c xs → RefusesOn c (walkOf c xs) why → becomes c ≡ refuses why
   walk-refuses xs why w r = past-records xs w ∙ ap concluded (refuses-so r)
 
-  width-refuses : (WidthRight c → ⊥) → becomes c ≡ refuses RecordWidth
+  width-refuses : (WidthRight (c .R) → ⊥) → becomes c ≡ refuses RecordWidth
   unfolding readingOf
   width-refuses h = go (widthRight (c .R)) refl
     where
       go : (b : Bool) → widthRight (c .R) ≡ b
           → cond b (checkFormat (c .R) (formats.outcome (c .format)) (wantedCheck (c .wanted)) (kindsOf c) (length (c .area)) (c .records)) (refuses RecordWidth) ≡ refuses RecordWidth
-      go true e = absurd (h (width-passed c e))
+      go true e = absurd (h (width-passed (c .R) e))
       go false e = refl
 
   -- ---- what it answers
@@ -82,7 +84,7 @@ module _ (c : Call) where
   answers-as e = (ap (λ r. answerNumber (answerOf r)) e, ap (λ r. answerPlace (answerOf r)) e)
 
 -- a row of the format check that is met answers for the call
-format-refuses : (c : Call) (k p : ℕ) → WidthRight c → (k ≡ 0 → ⊥) → Answers (c .format) k p → AnswersSo c k p
+format-refuses : (c : Call) (k p : ℕ) → WidthRight (c .R) → (k ≡ 0 → ⊥) → Answers (c .format) k p → AnswersSo c k p
 format-refuses c k p w ne a = go (formats.outcome (c .format)) refl
   where
     go : (o : formats.Outcome) → formats.outcome (c .format) ≡ o → AnswersSo c k p

@@ -5,14 +5,13 @@ use mathlib.Core.Bool.{Bool, true, false, cond}
 use mathlib.Core.List.{List}
 use Prim.Native.Nat.{ℕ, _/_, _<_, _≤_}
 use native.Mathlib.Omega.{arith}
-use borrow.Author.Tests.{leb-true, leb-false, le-leb, eqb-true, eqb-false}
+use borrow.Author.Tests.{leb-true, leb-false, eqb-true, eqb-false}
 use lib.Dec.{leb, eqb}
 use lib.ListN.{length}
 use Rattle.format_grammar.specs.Items.{Items}
 use Rattle.format_grammar.specs.Check as formats
 use Rattle.format_grammar.specs.Promises.{Acceptable}
 use Rattle.format_grammar.specs.Promises as formatted
-use Rattle.format_grammar.proofs.Cases.{and-true}
 use Rattle.format_grammar.proofs.Promises as grammar
 use Rattle.format_grammar.proofs.Answering.{numbered}
 use Rattle.list_elements.specs.Contents.{Content}
@@ -20,16 +19,17 @@ use Rattle.list_elements.specs.Limits.{wantedCheck, textsLength}
 use Rattle.list_elements.specs.declared.ListCheck.{ListCheck}
 use Rattle.list_elements.specs.declared.ListCheck.the-variants.{Good, Bad}
 use Rattle.sheet_walk.specs.Steps.{widthRight, Placement}
+use Rattle.sheet_walk.specs.Promises.{WidthRight, StopsWith}
+use Rattle.sheet_walk.proofs.WidthLaws.{width-passed, width-right}
 use Rattle.sheet_walk.specs.Walk.{Trace, put}
 use Rattle.sheet_walk.specs.Refusals.{refusalNumber, refusalPlace}
-use Rattle.sheet_walk.specs.Promises.{StopsWith}
 use Rattle.sheet_walk.specs.declared.Refusal.{Refusal}
 use Rattle.sheet_walk.specs.declared.Refusal.the-variants.{NoRecord, TextArea, FieldText, RecordWidth}
 use Rattle.sheet_walk.proofs.Covering.{in-put, in-stopped}
 use Rattle.read_passes.specs.Given.{Gathered, gathered}
 use Rattle.read_passes.proofs.GatheredLaws.{Gathers, Refuses, Told, told, AllReadable}
 use Rattle.sheet_read.specs.Reading.{Reading, accepts, refuses, concluded, checkRecords, checkArea, checkWanted, checkFormat, readingOf}
-use Rattle.sheet_read.specs.Promises.{Call, kindsOf, becomes, WidthRight, ListPassed, Walks, walkOf, Readable, UnreadableAt, AnsweredBy}
+use Rattle.sheet_read.specs.Promises.{Call, kindsOf, becomes, ListPassed, Walks, walkOf, Readable, UnreadableAt, AnsweredBy}
 
 -- contents and n records are gathered on a walk of the call
 abbrev pub GathersOn : Call → Trace → List Content → ℕ → Type 0
@@ -87,30 +87,24 @@ came-area c xs w = go (leb (textsLength (kindsOf c)) (length (c .area))) refl
     go true e = came-records c xs w (leb-true (textsLength (kindsOf c)) (length (c .area)) e)
     go false e = Came.refused (AnsweredBy.no-room w (leb-false (textsLength (kindsOf c)) (length (c .area)) e))
 
-came-wanted : (c : Call) (xs : Items) → WidthRight c → Acceptable (c .format) xs → (k : ListCheck) → wantedCheck (c .wanted) ≡ k → Came c (checkWanted (c .R) xs k (kindsOf c) (length (c .area)) (c .records))
+came-wanted : (c : Call) (xs : Items) → WidthRight (c .R) → Acceptable (c .format) xs → (k : ListCheck) → wantedCheck (c .wanted) ≡ k → Came c (checkWanted (c .R) xs k (kindsOf c) (length (c .area)) (c .records))
 came-wanted c xs w f Good e = came-area c xs (record { width = w; format = f; list = e })
 came-wanted c xs w f (Bad p) e = Came.refused (AnsweredBy.bad-element w f e)
 
-came-format : (c : Call) → WidthRight c → (o : formats.Outcome) → formats.outcome (c .format) ≡ o → Came c (checkFormat (c .R) o (wantedCheck (c .wanted)) (kindsOf c) (length (c .area)) (c .records))
+came-format : (c : Call) → WidthRight (c .R) → (o : formats.Outcome) → formats.outcome (c .format) ≡ o → Came c (checkFormat (c .R) o (wantedCheck (c .wanted)) (kindsOf c) (length (c .area)) (c .records))
 came-format c w (formats.accepted xs) e = came-wanted c xs w (grammar.accepts-exactly (c .format) xs .0 e) (wantedCheck (c .wanted)) refl
 came-format c w (formats.refused why) e =
     Came.refused (AnsweredBy.wrong-format w (numbered why)
     (subst (λ o. formatted.AnsweredBy (c .format) (formats.outcomeNumber o) (formats.outcomePlace o)) e (grammar.always-answered (c .format))))
-
--- the test of the width, passed
-pub width-passed : (c : Call) → widthRight (c .R) ≡ true → WidthRight c
-width-passed c e =
-    let r = and-true (leb 1 (c .R)) (leb (c .R) 255) e in
-    record { from = leb-true 1 (c .R) (r .0); to = leb-true (c .R) 255 (r .1) }
 
 pub came : (c : Call) → Came c (becomes c)
 unfolding readingOf
 came c = go (widthRight (c .R)) refl
   where
     go : (b : Bool) → widthRight (c .R) ≡ b → Came c (cond b (checkFormat (c .R) (formats.outcome (c .format)) (wantedCheck (c .wanted)) (kindsOf c) (length (c .area)) (c .records)) (refuses RecordWidth))
-    go true e = came-format c (width-passed c e) (formats.outcome (c .format)) refl
+    go true e = came-format c (width-passed (c .R) e) (formats.outcome (c .format)) refl
     go false e =
         Came.refused (AnsweredBy.wrong-width (λ w.
-        let t : widthRight (c .R) ≡ true = rw (le-leb 1 (c .R) (w .from), le-leb (c .R) 255 (w .to)) in
+        let t = width-right (c .R) w in
         let z : _≡_ {A = ℕ} 0 1 = cc in
         omega arith))

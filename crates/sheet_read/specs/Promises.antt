@@ -4,14 +4,14 @@ use mathlib.Core.Path.{_≡_}
 use mathlib.Core.Logic.{_↔_}
 use mathlib.Core.List.{List, map}
 use Prim.Native.Nat.{ℕ, _/_, _<_, _≤_}
-use lib.ListN.{length, drop, getD}
+use lib.ListN.{length, take, drop, getD}
 use lib.IntN.{pos}
 use Rattle.format_grammar.specs.Items.{Field, Items}
 use Rattle.format_grammar.specs.Promises as grammar
 use Rattle.format_grammar.specs.Promises.{Acceptable}
 use Rattle.list_elements.specs.Elements.{Kind, kindOf, zeroValue, emptyList, values}
 use Rattle.list_elements.specs.Limits.{mostElements, wantedCheck, textsLength}
-use Rattle.list_elements.specs.Contents.{Content, integer, contentOf, textsOf, elementOf}
+use Rattle.list_elements.specs.Contents.{Content, integer, contentOf, textsOf, valuesFrom, elementOf}
 use Rattle.list_elements.specs.declared.List as carried
 use Rattle.list_elements.specs.declared.ListCheck.the-variants.{Good, Bad}
 use Rattle.sheet_walk.specs.Refusals.{refusalNumber, refusalPlace}
@@ -19,7 +19,7 @@ use Rattle.sheet_walk.specs.Steps.{element, Placement}
 use Rattle.sheet_walk.specs.Walk.{Trace, put, sheet, walk}
 use Rattle.sheet_walk.specs.Columns.{In}
 use Rattle.sheet_walk.specs.Laid.{columns}
-use Rattle.sheet_walk.specs.Promises.{EndsWith, StopsWith, elementsPut, numbersFrom}
+use Rattle.sheet_walk.specs.Promises.{WidthRight, EndsWith, StopsWith, elementsPut, numbersFrom}
 use Rattle.sheet_walk.specs.declared.Refusal.{Refusal}
 use Rattle.read_passes.specs.Given.{Given, gives, nothing, fieldGives, kindAt}
 use Rattle.sheet_walk.specs.Answers.{answerNumber, answerPlace, answerRecords, answerStarred}
@@ -55,17 +55,21 @@ areaAfter c = readArea (c .R) (c .format) (c .wanted) (c .area) (c .records)
 abbrev pub contentsAfter : Call → List Content
 contentsAfter c = map (contentOf (areaAfter c)) (values (listAfter c))
 
+-- ---- what matters of the wanted elements
+
+-- 'the caller lists the kinds wanted, with a length for each text': of the wanted elements nothing else matters, and of the text
+-- area only its length. (The count is named beside the kinds, since a count over 64 has the kinds of 64 elements.)
+abbrev pub KindsOnly : Type 0
+KindsOnly =
+    (c d : Call) → c .R ≡ d .R → c .format ≡ d .format → c .records ≡ d .records → c .wanted .count ≡ d .wanted .count → kindsOf c ≡ kindsOf d → length (c .area) ≡ length (d .area)
+    → becomes c ≡ becomes d
+
 -- ---- which row answers, with its number and its place: 'Rows apply in this order down to the first walk row; then the first
 -- refusal on the walk counts'
 
--- row 1 is passed
-pub record WidthRight (c : Call) : Type 0 where
-  pub from : 1 ≤ c .R
-  pub to : c .R ≤ 255
-
 -- rows 1 to 6 are passed, the format's items being xs
 pub record ListPassed (c : Call) (xs : Items) : Type 0 where
-  pub width : WidthRight c
+  pub width : WidthRight (c .R)
   pub format : Acceptable (c .format) xs
   pub list : wantedCheck (c .wanted) ≡ Good
 
@@ -103,9 +107,9 @@ pub record AcceptableCall (c : Call) (t : Trace) (n : ℕ) : Type 0 where
 -- what answers with a number and a place: acceptance, or a row
 pub data AnsweredBy (c : Call) : ℕ → ℕ → Type 0 where
   acceptable : {t : Trace} {n : ℕ} → AcceptableCall c t n → AnsweredBy c 0 0
-  wrong-width : (WidthRight c → ⊥) → AnsweredBy c 1 0
-  wrong-format : {k p : ℕ} → WidthRight c → (k ≡ 0 → ⊥) → grammar.AnsweredBy (c .format) k p → AnsweredBy c k p
-  bad-element : {xs : Items} {p : ℕ} → WidthRight c → Acceptable (c .format) xs → wantedCheck (c .wanted) ≡ Bad p → AnsweredBy c 6 p
+  wrong-width : (WidthRight (c .R) → ⊥) → AnsweredBy c 1 0
+  wrong-format : {k p : ℕ} → WidthRight (c .R) → (k ≡ 0 → ⊥) → grammar.AnsweredBy (c .format) k p → AnsweredBy c k p
+  bad-element : {xs : Items} {p : ℕ} → WidthRight (c .R) → Acceptable (c .format) xs → wantedCheck (c .wanted) ≡ Bad p → AnsweredBy c 6 p
   no-room : {xs : Items} → ListPassed c xs → length (c .area) < textsLength (kindsOf c) → AnsweredBy c 13 0
   no-record : {xs : Items} → ListPassed c xs → textsLength (kindsOf c) ≤ length (c .area) → length (c .records) / c .R ≡ 0 → AnsweredBy c 9 0
   refused-walk : {xs : Items} {why : Refusal} → Walks c xs → StopsWith why (walkOf c xs) → ((p : Placement) → In p (walkOf c xs) → Readable c p)
@@ -133,11 +137,14 @@ RefusedSo =
 
 -- ---- what an accepted reading gives
 
--- every row is passed, with a walk on which every element is met once, in order; each element holds what its field gives
+-- an acceptable call meets every element wanted once, in order
+abbrev pub MetInOrder : Type 0
+MetInOrder = (c : Call) (t : Trace) (n : ℕ) → AcceptableCall c t n → elementsPut t ≡ numbersFrom 0 (length (kindsOf c))
+
+-- every row is passed, and each element holds what its field gives
 pub record GivenInOrder (c : Call) (cs : List Content) (n : ℕ) : Type 0 where
   pub t : Trace
   pub accepted : AcceptableCall c t n
-  pub each : elementsPut t ≡ numbersFrom 0 (length (kindsOf c))
   pub as-many : length cs ≡ length (kindsOf c)
   pub field : (p : Placement) → In p t → (i : ℕ) (f : Field ℕ) → p .what ≡ element i f → givenBy c p i f ≡ gives (getD cs i (integer (pos 0)))
 
@@ -145,14 +152,21 @@ pub record GivenInOrder (c : Call) (cs : List Content) (n : ℕ) : Type 0 where
 abbrev pub AcceptsExactly : Type 0
 AcceptsExactly = (c : Call) (cs : List Content) (n : ℕ) → (becomes c ≡ accepts cs n) ↔ GivenInOrder c cs n
 
--- the answer then has the records and no starred field; the list given holds these contents, is of the kinds wanted, and holds
--- integer 0 past the count; 'the bytes after them keep their contents', and the area its length
+-- what the answer, the list and the text area then are
 pub record GivenSo (c : Call) (cs : List Content) (n : ℕ) : Type 0 where
+  -- the records, and no starred field
   pub records : answerRecords (answerTo c) ≡ n
   pub starred : answerStarred (answerTo c) ≡ 0
+  -- the list holds these contents, as many as its count, and is of the kinds wanted
+  pub count : listAfter c .count ≡ length cs
   pub contents : contentsAfter c ≡ cs
   pub kinds : map kindOf (values (listAfter c)) ≡ kindsOf c
+  -- each text starts where the one before it ends, the first at 0
+  pub placed : values (listAfter c) ≡ valuesFrom 0 cs
+  -- places past the count 'hold integer 0 in a result'
   pub past : (i : ℕ) → length cs ≤ i → i < mostElements → getD (listAfter c .elements) i (elementOf zeroValue) ≡ elementOf zeroValue
+  -- the area has the texts end to end 'from its first byte'; 'the bytes after them keep their contents', and the area its length
+  pub texts : take (length (textsOf cs)) (areaAfter c) ≡ textsOf cs
   pub long : length (areaAfter c) ≡ length (c .area)
   pub bytes-after : drop (length (textsOf cs)) (areaAfter c) ≡ drop (length (textsOf cs)) (c .area)
 

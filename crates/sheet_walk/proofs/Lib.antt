@@ -1,3 +1,4 @@
+pub mod WidthLaws
 pub mod StepLaws
 pub mod Returns
 pub mod Covering

@@ -1,12 +1,18 @@
 -- The theorems on the walk that specs/Promises.antt states.
 -- Assumes nothing.
-use Rattle.sheet_walk.specs.Promises.{EndIs, ReturnTakes, ItemRefusedIs, EndRefusedIs, CoversInside, CoversReached, ElementsSuited, PutsEach, LiteralsWide, RecordsBeyond, RefusedBecause, RefusedOnlyThere, CoveredTwiceIs, ColumnsKept}
+use Rattle.sheet_walk.specs.Promises.{WidthRightIs, EndIs, ReturnTakes, ItemRefusedIs, EndRefusedIs, CoversInside, CoversReached, ElementsSuited, PutsEach, LiteralsWide, RecordsBeyond, RefusedBecause, RefusedOnlyThere, CoveredTwiceIs, ColumnsKept}
+use Rattle.sheet_walk.proofs.WidthLaws
 use Rattle.sheet_walk.proofs.Returns
 use Rattle.sheet_walk.proofs.Refusing
 use Rattle.sheet_walk.proofs.Covering
 use Rattle.sheet_walk.proofs.Beyond
 use Rattle.sheet_walk.proofs.Twice
 use Rattle.sheet_walk.proofs.Windows
+
+-- ---- the record width
+
+pub width-right-is : WidthRightIs
+width-right-is = WidthLaws.width-right-is
 
 -- ---- the walk is total
 

@@ -11,7 +11,7 @@ use Rattle.format_grammar.specs.Met.{Met}
 use Rattle.format_grammar.specs.Promises.{AllMetWithin}
 use Rattle.list_elements.specs.Elements.{Kind, integer}
 use Rattle.sheet_walk.specs.Refusals.{refusalPlace}
-use Rattle.sheet_walk.specs.Steps.{What, element, literal, Placement, suits, fieldWidth, moves, covers, refused, start, step, hasField, endStep}
+use Rattle.sheet_walk.specs.Steps.{widthRight, What, element, literal, Placement, suits, fieldWidth, moves, covers, refused, start, step, hasField, endStep}
 use Rattle.sheet_walk.specs.Walk.{Sheet, Trace, put, done, stopped, return, atEnd, walk}
 use Rattle.sheet_walk.specs.Columns.{In, CoveredTwice, coveredTwice}
 use Rattle.sheet_walk.specs.Laid.{laid, columns}
@@ -19,6 +19,16 @@ use Rattle.sheet_walk.specs.declared.Refusal.{Refusal}
 use Rattle.sheet_walk.specs.declared.Refusal.the-variants as refusal
 use Rattle.sheet_walk.specs.declared.Records.{Records}
 use Rattle.sheet_walk.specs.declared.State.{State}
+
+-- ---- 'The record width R is 1 to 255'
+
+pub record WidthRight (R : ℕ) : Type 0 where
+  pub from : 1 ≤ R
+  pub to : R ≤ 255
+
+-- the test for it is met exactly there
+abbrev pub WidthRightIs : Type 0
+WidthRightIs = (R : ℕ) → (widthRight R ≡ true) ↔ WidthRight R
 
 -- ---- the walk is total
 

@@ -23,18 +23,18 @@ use Rattle.list_elements.specs.declared.Value.the-variants as value
 use Rattle.list_elements.specs.declared.ListCheck.{ListCheck}
 use Rattle.list_elements.specs.declared.ListCheck.the-variants.{Good, Bad}
 use Rattle.sheet_walk.specs.Steps.{widthRight, What, element, literal, Placement}
+use Rattle.sheet_walk.specs.Promises.{WidthRight, StopsWith}
+use Rattle.sheet_walk.proofs.WidthLaws.{width-passed}
 use Rattle.sheet_walk.specs.Walk.{Trace}
 use Rattle.sheet_walk.specs.Columns.{In, here, there}
-use Rattle.sheet_walk.specs.Promises.{StopsWith}
 use Rattle.sheet_walk.specs.declared.Refusal.{Refusal}
 use Rattle.sheet_walk.specs.declared.Refusal.the-variants.{RecordWidth, Format, NoRecord, TooLarge}
 use Rattle.write_passes.specs.Placed.{valueAt, fieldTooLarge, Judged, refused, judgedAt, judged}
 use Rattle.write_passes.proofs.PlacedLaws.{judged-accepts}
 use Rattle.sheet_walk.specs.Answers.{answerNumber, answerPlace}
 use Rattle.sheet_write.specs.Writing.{Writing, accepts, refuses, concluded, walked, checkList, checkFormat, writingOf, answerOf}
-use Rattle.sheet_write.specs.Promises.{Call, valuesOf, becomes, answerTo, WidthRight, Walks, walkOf, RoundsWithin, TooLargeAt, AcceptableCall, AnsweredBy}
+use Rattle.sheet_write.specs.Promises.{Call, valuesOf, becomes, answerTo, Walks, walkOf, RoundsWithin, TooLargeAt, AcceptableCall, AnsweredBy}
 use Rattle.sheet_write.proofs.Rounds.{rounds-small}
-use Rattle.sheet_write.proofs.Calls.{width-passed}
 
 -- ---- the check of values over a walk
 
@@ -73,11 +73,11 @@ judged-large vs (TooLargeAt.there {p} {t} r l) = judged-past vs p (judged vs t) 
 -- ---- what becomes of a call that passes the rows before
 
 module _ (c : Call) where
-  past-width : WidthRight c → becomes c ≡ checkFormat (c .R) (formats.outcome (c .format)) (listCheck (c .area) (c .list)) (valuesOf c) (length (c .buffer))
+  past-width : WidthRight (c .R) → becomes c ≡ checkFormat (c .R) (formats.outcome (c .format)) (listCheck (c .area) (c .list)) (valuesOf c) (length (c .buffer))
   unfolding writingOf
   past-width w = rw (le-leb 1 (c .R) (w .from), le-leb (c .R) 255 (w .to))
 
-  past-format : (xs : Items) → WidthRight c → Acceptable (c .format) xs → (k : ListCheck) → listCheck (c .area) (c .list) ≡ k → becomes c ≡ checkList (c .R) xs k (valuesOf c) (length (c .buffer))
+  past-format : (xs : Items) → WidthRight (c .R) → Acceptable (c .format) xs → (k : ListCheck) → listCheck (c .area) (c .list) ≡ k → becomes c ≡ checkList (c .R) xs k (valuesOf c) (length (c .buffer))
   past-format xs w f k e = past-width w ∙ rw (grammar.accepts-exactly (c .format) xs .1 f, e)
 
   past-buffer : (xs : Items) → Walks c xs → becomes c ≡ walked (valuesOf c) (walkOf c xs)
@@ -96,13 +96,13 @@ module _ (c : Call) where
   walk-refuses : (xs : Items) (why : Refusal) → Walks c xs → judged (valuesOf c) (walkOf c xs) ≡ refused why → becomes c ≡ refuses why
   walk-refuses xs why w e = past-buffer xs w ∙ ap (concluded (walkOf c xs)) e
 
-  width-refuses : (WidthRight c → ⊥) → becomes c ≡ refuses RecordWidth
+  width-refuses : (WidthRight (c .R) → ⊥) → becomes c ≡ refuses RecordWidth
   unfolding writingOf
   width-refuses h = go (widthRight (c .R)) refl
     where
       go : (b : Bool) → widthRight (c .R) ≡ b
           → cond b (checkFormat (c .R) (formats.outcome (c .format)) (listCheck (c .area) (c .list)) (valuesOf c) (length (c .buffer))) (refuses RecordWidth) ≡ refuses RecordWidth
-      go true e = absurd (h (width-passed c e))
+      go true e = absurd (h (width-passed (c .R) e))
       go false e = refl
 
   -- ---- what it answers
@@ -115,7 +115,7 @@ module _ (c : Call) where
   answers-as e = (ap (λ w. answerNumber (answerOf (valuesOf c) w)) e, ap (λ w. answerPlace (answerOf (valuesOf c) w)) e)
 
 -- a row of the format check that is met answers for the call
-format-refuses : (c : Call) (k p : ℕ) → WidthRight c → (k ≡ 0 → ⊥) → Answers (c .format) k p → AnswersSo c k p
+format-refuses : (c : Call) (k p : ℕ) → WidthRight (c .R) → (k ≡ 0 → ⊥) → Answers (c .format) k p → AnswersSo c k p
 format-refuses c k p w ne a = go (formats.outcome (c .format)) refl
   where
     go : (o : formats.Outcome) → formats.outcome (c .format) ≡ o → AnswersSo c k p

@@ -4,20 +4,21 @@ use mathlib.Core.Path.{_≡_, refl, ap, subst}
 use mathlib.Core.Bool.{Bool, true, false, cond}
 use Prim.Native.Nat.{ℕ, _/_, _<_}
 use native.Mathlib.Omega.{arith}
-use borrow.Author.Tests.{leb-true, le-leb, eqb-true, eqb-false}
-use lib.Dec.{leb, eqb}
+use borrow.Author.Tests.{eqb-true, eqb-false}
+use lib.Dec.{eqb}
 use lib.ListN.{length}
 use Rattle.format_grammar.specs.Items.{Items}
 use Rattle.format_grammar.specs.Check as formats
 use Rattle.format_grammar.specs.Promises.{Acceptable}
 use Rattle.format_grammar.specs.Promises as formatted
-use Rattle.format_grammar.proofs.Cases.{and-true}
 use Rattle.format_grammar.proofs.Promises as grammar
 use Rattle.format_grammar.proofs.Answering.{numbered}
 use Rattle.list_elements.specs.Limits.{listCheck}
 use Rattle.list_elements.specs.declared.ListCheck.{ListCheck}
 use Rattle.list_elements.specs.declared.ListCheck.the-variants.{Good, Bad}
 use Rattle.sheet_walk.specs.Steps.{widthRight}
+use Rattle.sheet_walk.specs.Promises.{WidthRight}
+use Rattle.sheet_walk.proofs.WidthLaws.{width-passed, width-right}
 use Rattle.sheet_walk.specs.Walk.{Trace}
 use Rattle.sheet_walk.specs.Laid.{written}
 use Rattle.sheet_walk.specs.Refusals.{refusalNumber, refusalPlace}
@@ -25,7 +26,7 @@ use Rattle.sheet_walk.specs.declared.Refusal.{Refusal}
 use Rattle.sheet_walk.specs.declared.Refusal.the-variants.{NoRecord, RecordWidth}
 use Rattle.write_passes.specs.Placed.{characters, Judged}
 use Rattle.sheet_write.specs.Writing.{Writing, accepts, refuses, concluded, walked, checkBuffer, checkList, checkFormat, writingOf, bufferOf}
-use Rattle.sheet_write.specs.Promises.{Call, valuesOf, becomes, bufferAfter, WidthRight, Walks, walkOf, AcceptableCall, AnsweredBy}
+use Rattle.sheet_write.specs.Promises.{Call, valuesOf, becomes, bufferAfter, Walks, walkOf, AcceptableCall, AnsweredBy}
 use Rattle.sheet_write.proofs.Rounds.{Told, told}
 
 -- a writing with the reason for it
@@ -40,7 +41,7 @@ came-walk c xs w (Told.ends e all) = Came.accepted (record { xs = xs; walks = w;
 came-walk c xs w (Told.stops s all) = Came.refused (AnsweredBy.refused-walk w s all)
 came-walk c xs w (Told.large l) = Came.refused (AnsweredBy.too-large w l)
 
-came-buffer : (c : Call) (xs : Items) → WidthRight c → Acceptable (c .format) xs → listCheck (c .area) (c .list) ≡ Good → Came c (checkBuffer (c .R) xs (valuesOf c) (length (c .buffer)))
+came-buffer : (c : Call) (xs : Items) → WidthRight (c .R) → Acceptable (c .format) xs → listCheck (c .area) (c .list) ≡ Good → Came c (checkBuffer (c .R) xs (valuesOf c) (length (c .buffer)))
 came-buffer c xs w f g = go (eqb (length (c .buffer) / c .R) 0) refl
   where
     go : (b : Bool) → eqb (length (c .buffer) / c .R) 0 ≡ b → Came c (cond b (refuses NoRecord) (walked (valuesOf c) (walkOf c xs)))
@@ -50,31 +51,25 @@ came-buffer c xs w f g = go (eqb (length (c .buffer) / c .R) 0) refl
         let some : 0 < length (c .buffer) / c .R = omega arith in
         came-walk c xs (record { width = w; format = f; list = g; some-record = some }) (told (valuesOf c) (walkOf c xs))
 
-came-list : (c : Call) (xs : Items) → WidthRight c → Acceptable (c .format) xs → (k : ListCheck) → listCheck (c .area) (c .list) ≡ k → Came c (checkList (c .R) xs k (valuesOf c) (length (c .buffer)))
+came-list : (c : Call) (xs : Items) → WidthRight (c .R) → Acceptable (c .format) xs → (k : ListCheck) → listCheck (c .area) (c .list) ≡ k → Came c (checkList (c .R) xs k (valuesOf c) (length (c .buffer)))
 came-list c xs w f Good e = came-buffer c xs w f e
 came-list c xs w f (Bad p) e = Came.refused (AnsweredBy.bad-element w f e)
 
-came-format : (c : Call) → WidthRight c → (o : formats.Outcome) → formats.outcome (c .format) ≡ o → Came c (checkFormat (c .R) o (listCheck (c .area) (c .list)) (valuesOf c) (length (c .buffer)))
+came-format : (c : Call) → WidthRight (c .R) → (o : formats.Outcome) → formats.outcome (c .format) ≡ o → Came c (checkFormat (c .R) o (listCheck (c .area) (c .list)) (valuesOf c) (length (c .buffer)))
 came-format c w (formats.accepted xs) e = came-list c xs w (grammar.accepts-exactly (c .format) xs .0 e) (listCheck (c .area) (c .list)) refl
 came-format c w (formats.refused why) e =
     Came.refused (AnsweredBy.wrong-format w (numbered why)
     (subst (λ o. formatted.AnsweredBy (c .format) (formats.outcomeNumber o) (formats.outcomePlace o)) e (grammar.always-answered (c .format))))
-
--- the test of the width, passed
-pub width-passed : (c : Call) → widthRight (c .R) ≡ true → WidthRight c
-width-passed c e =
-    let r = and-true (leb 1 (c .R)) (leb (c .R) 255) e in
-    record { from = leb-true 1 (c .R) (r .0); to = leb-true (c .R) 255 (r .1) }
 
 pub came : (c : Call) → Came c (becomes c)
 unfolding writingOf
 came c = go (widthRight (c .R)) refl
   where
     go : (b : Bool) → widthRight (c .R) ≡ b → Came c (cond b (checkFormat (c .R) (formats.outcome (c .format)) (listCheck (c .area) (c .list)) (valuesOf c) (length (c .buffer))) (refuses RecordWidth))
-    go true e = came-format c (width-passed c e) (formats.outcome (c .format)) refl
+    go true e = came-format c (width-passed (c .R) e) (formats.outcome (c .format)) refl
     go false e =
         Came.refused (AnsweredBy.wrong-width (λ w.
-        let t : widthRight (c .R) ≡ true = rw (le-leb 1 (c .R) (w .from), le-leb (c .R) 255 (w .to)) in
+        let t = width-right (c .R) w in
         let z : _≡_ {A = ℕ} 0 1 = cc in
         omega arith))
 

@@ -28,7 +28,7 @@ use Rattle.sheet_walk.specs.Steps.{element, Placement}
 use Rattle.sheet_walk.specs.Walk.{Trace, put, done, stopped, sheet, walk}
 use Rattle.sheet_walk.specs.Columns.{In, coveredTwice, LastCovers, Uncovered}
 use Rattle.sheet_walk.specs.Laid.{offset, columns}
-use Rattle.sheet_walk.specs.Promises.{EndsWith, Inside, Suited, StopsWith, elementsPut, numbersFrom}
+use Rattle.sheet_walk.specs.Promises.{WidthRight, EndsWith, Inside, Suited, StopsWith, elementsPut, numbersFrom}
 use Rattle.sheet_walk.specs.declared.Refusal.{Refusal}
 use Rattle.write_passes.specs.Placed.{valueAt, characters}
 use Rattle.sheet_walk.specs.Answers.{answerNumber, answerPlace, answerRecords, answerStarred}
@@ -67,14 +67,9 @@ bufferAfter c = writeBuffer (c .R) (c .format) (c .list) (c .area) (c .buffer)
 -- ---- which row answers, with its number and its place: 'Rows apply in this order down to the first walk row; then the first
 -- refusal on the walk counts'
 
--- row 1 is passed
-pub record WidthRight (c : Call) : Type 0 where
-  pub from : 1 ≤ c .R
-  pub to : c .R ≤ 255
-
 -- every row before the walk is passed, the format's items being xs
 pub record Walks (c : Call) (xs : Items) : Type 0 where
-  pub width : WidthRight c
+  pub width : WidthRight (c .R)
   pub format : Acceptable (c .format) xs
   pub list : listCheck (c .area) (c .list) ≡ Good
   pub some-record : 0 < length (c .buffer) / c .R
@@ -106,10 +101,10 @@ pub record AcceptableCall (c : Call) (t : Trace) (n : ℕ) : Type 0 where
 -- what answers with a number and a place: acceptance, or a row
 pub data AnsweredBy (c : Call) : ℕ → ℕ → Type 0 where
   acceptable : {t : Trace} {n : ℕ} → AcceptableCall c t n → AnsweredBy c 0 0
-  wrong-width : (WidthRight c → ⊥) → AnsweredBy c 1 0
-  wrong-format : {k p : ℕ} → WidthRight c → (k ≡ 0 → ⊥) → grammar.AnsweredBy (c .format) k p → AnsweredBy c k p
-  bad-element : {xs : Items} {p : ℕ} → WidthRight c → Acceptable (c .format) xs → listCheck (c .area) (c .list) ≡ Bad p → AnsweredBy c 6 p
-  no-record : {xs : Items} → WidthRight c → Acceptable (c .format) xs → listCheck (c .area) (c .list) ≡ Good → length (c .buffer) / c .R ≡ 0 → AnsweredBy c 9 0
+  wrong-width : (WidthRight (c .R) → ⊥) → AnsweredBy c 1 0
+  wrong-format : {k p : ℕ} → WidthRight (c .R) → (k ≡ 0 → ⊥) → grammar.AnsweredBy (c .format) k p → AnsweredBy c k p
+  bad-element : {xs : Items} {p : ℕ} → WidthRight (c .R) → Acceptable (c .format) xs → listCheck (c .area) (c .list) ≡ Bad p → AnsweredBy c 6 p
+  no-record : {xs : Items} → WidthRight (c .R) → Acceptable (c .format) xs → listCheck (c .area) (c .list) ≡ Good → length (c .buffer) / c .R ≡ 0 → AnsweredBy c 9 0
   refused-walk : {xs : Items} {why : Refusal} → Walks c xs → StopsWith why (walkOf c xs) → ((p : Placement) → In p (walkOf c xs) → RoundsWithin (valuesOf c) p)
       → AnsweredBy c (refusalNumber why) (refusalPlace why)
   too-large : {xs : Items} {i : ℕ} → Walks c xs → TooLargeAt (valuesOf c) i (walkOf c xs) → AnsweredBy c 11 i

@@ -1,0 +1,21 @@
+-- The test of the record width.
+-- Assumes nothing.
+use mathlib.Core.Path.{_≡_}
+use mathlib.Core.Bool.{true}
+use Prim.Native.Nat.{ℕ}
+use borrow.Author.Tests.{le-leb, leb-true}
+use lib.Dec.{leb}
+use Rattle.format_grammar.proofs.Cases.{and-true}
+use Rattle.sheet_walk.specs.Steps.{widthRight}
+use Rattle.sheet_walk.specs.Promises.{WidthRight, WidthRightIs}
+
+pub width-passed : (R : ℕ) → widthRight R ≡ true → WidthRight R
+width-passed R e =
+    let r = and-true (leb 1 R) (leb R 255) e in
+    record { from = leb-true 1 R (r .0); to = leb-true R 255 (r .1) }
+
+pub width-right : (R : ℕ) → WidthRight R → widthRight R ≡ true
+width-right R w = rw (le-leb 1 R (w .from), le-leb R 255 (w .to))
+
+pub width-right-is : WidthRightIs
+width-right-is R = (width-passed R, width-right R)
