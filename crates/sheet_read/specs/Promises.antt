@@ -12,6 +12,7 @@ use Rattle.format_grammar.specs.Promises.{Acceptable}
 use Rattle.list_elements.specs.Elements.{Kind, kindOf, zeroValue, emptyList, values}
 use Rattle.list_elements.specs.Limits.{mostElements, wantedCheck, textsLength}
 use Rattle.list_elements.specs.Contents.{Content, integer, contentOf, textsOf, valuesFrom, elementOf}
+use Rattle.list_elements.specs.declared.Element.{Element}
 use Rattle.list_elements.specs.declared.List as carried
 use Rattle.list_elements.specs.declared.ListCheck.the-variants.{Good, Bad}
 use Rattle.sheet_walk.specs.Refusals.{refusalNumber, refusalPlace}
@@ -163,8 +164,9 @@ pub record GivenSo (c : Call) (cs : List Content) (n : ℕ) : Type 0 where
   pub kinds : map kindOf (values (listAfter c)) ≡ kindsOf c
   -- each text starts where the one before it ends, the first at 0
   pub placed : values (listAfter c) ≡ valuesFrom 0 cs
-  -- places past the count 'hold integer 0 in a result'
-  pub past : (i : ℕ) → length cs ≤ i → i < mostElements → getD (listAfter c .elements) i (elementOf zeroValue) ≡ elementOf zeroValue
+  -- places past the count, up to 64, 'hold integer 0 in a result'
+  pub all-places : length (listAfter c .elements) ≡ mostElements
+  pub past : (i : ℕ) (other : Element) → length cs ≤ i → i < mostElements → getD (listAfter c .elements) i other ≡ elementOf zeroValue
   -- the area has the texts end to end 'from its first byte'; 'the bytes after them keep their contents', and the area its length
   pub texts : take (length (textsOf cs)) (areaAfter c) ≡ textsOf cs
   pub long : length (areaAfter c) ≡ length (c .area)
