@@ -4,6 +4,7 @@ use mathlib.Core.Path.{subst, _≡_, refl, ap, _∙_}
 use mathlib.Core.List.{List, [], _∷_}
 use Prim.Native.Nat.{ℕ, zero, suc, _+_, _-_, _<_, _≤_}
 use native.Mathlib.Omega.{arith}
+use borrow.Author.Tests.{le-leb}
 use lib.ListN.{length, drop}
 use Rattle.format_grammar.specs.Items.{Field, Items}
 use Rattle.format_grammar.specs.Met.{Met, met, returnIndex}
@@ -17,7 +18,7 @@ use Rattle.sheet_walk.specs.Refusals.{refusalPlace}
 use Rattle.sheet_walk.specs.Steps.{What, element, literal, Placement, Step, moves, covers, refused, ends, start, step, endStep}
 use Rattle.sheet_walk.specs.Walk.{Sheet, sheet, Trace, put, done, stopped, after, pass, returns, atEnd, walk}
 use Rattle.sheet_walk.specs.Columns.{In, here, there}
-use Rattle.sheet_walk.specs.Promises.{StopsWith, Comes, RefusedThere, RefusedBecause, ItemRefused, EndRefused, LiteralsWide, Walkable, EndsWith, Inside, Suited, placeOf, elementsPut, numbersFrom, CoversInside, CoversReached, ElementsSuited, PutsEach}
+use Rattle.sheet_walk.specs.Promises.{StopsWith, Comes, RefusedThere, RefusedBecause, EndsThere, CoversThere, ItemRefused, EndRefused, LiteralsWide, Walkable, EndsWith, Inside, Suited, placeOf, elementsPut, numbersFrom, CoversInside, CoversReached, ElementsSuited, PutsEach}
 use Rattle.sheet_walk.proofs.StepLaws.{fieldsOf, fieldsIn, Moved, CoveredBy, Covered, Does, step-does, AtEnd, end-does}
 
 -- ---- the sheet of an accepted format
@@ -60,8 +61,8 @@ few-covered kinds x s w (literal cs) by l = rw (by .0) (omega arith)
 
 module _ (h : Sheet) (P : State → Trace → Type 0)
     (goes : (s n : State) (t : Trace) → s .row ≤ n .row → n .taken ≡ s .taken → P n t → P s t)
-    (puts : (x : Met) (s n : State) (p : Placement) (t : Trace) → Stands h s → Covered (h .kinds) (h .records) x s p n → P n t → P s (put p t))
-    (finishes : (s : State) → Stands h s → s .taken ≡ length (h .kinds) → P s (done (s .row + 1)))
+    (puts : (x : Met) (s n : State) (p : Placement) (t : Trace) → Stands h s → Covered (h .kinds) (h .records) x s p n → CoversThere h p → P n t → P s (put p t))
+    (finishes : (s : State) → Stands h s → s .taken ≡ length (h .kinds) → EndsThere h s → P s (done (s .row + 1)))
     (stops : (s : State) (why : Refusal) → RefusedThere h s why → P s (stopped why)) where
   every-step : (x : Met) (xs : List Met) (st : Step) (s : State) (next : State → Trace) → Comes h (x ∷ xs) s → step (h .kinds) (h .records) x s ≡ st
       → Stands h s → (Walkable h → MetWithin x) → Does (h .kinds) (h .records) x s st
@@ -69,11 +70,11 @@ module _ (h : Sheet) (P : State → Trace → Type 0)
   every-step x xs (moves n) s next c e i within d rest =
       goes s n (next n) (d .0 .row-on) (omega arith) (rest n (Comes.moved c e) (moved-stands h x s n i within (d .0) (omega arith)) (d .0 .takes))
   every-step x xs (covers p n) s next c e i within d rest =
-      puts x s n p (next n) i d
+      puts x s n p (next n) i d (CoversThere.at-item c e)
       (rest n (Comes.covered c e) (moved-stands h x s n i within (d .moved) (few-covered (h .kinds) x s (p .width) (p .what) (d .by) (i .few)))
       (d .moved .takes))
   every-step x xs (refused why) s next c e i within d rest = stops s why (RefusedThere.at-item c d)
-  every-step x xs ends s next c e i within d rest = finishes s i (omega arith)
+  every-step x xs ends s next c e i within d rest = finishes s i (omega arith) (EndsThere.at-item c e)
 
   every-pass : (next : State → Trace) (xs : List Met) (s : State) → Comes h xs s → Stands h s → (Walkable h → AllMetWithin xs)
       → ((n : State) → Comes h [] n → Stands h n → n .taken ≡ s .taken + fieldsIn xs → P n (next n)) → P s (pass h next xs s)
@@ -91,11 +92,11 @@ module _ (h : Sheet) (P : State → Trace → Type 0)
       (rest n (Comes.returned c e) (moved-stands h Met.slash s n i (λ w. tt) (d .0) (omega arith)) (omega (arith, d .0 .takes)) (d .1))
   every-end (covers p n) s next c e i d rest = absurd d
   every-end (refused why) s next c e i d rest = stops s why (RefusedThere.at-end c d)
-  every-end ends s next c e i d rest = finishes s i (omega arith)
+  every-end ends s next c e i d rest = finishes s i (omega arith) (EndsThere.at-end c e)
 
   every-return : (k : ℕ) (s : State) → Comes h [] s → Stands h s → length (h .kinds) ≤ s .taken + k → P s (returns h k s)
-  unfolding returns
-  every-return zero s c i l = finishes s i (omega arith)
+  unfolding returns endStep
+  every-return zero s c i l = finishes s i (omega arith) (EndsThere.at-end c (rw (le-leb (length (h .kinds)) (s .taken) (omega arith))))
   every-return (suc k) s c i l =
       every-end (endStep (h .kinds) (h .records) (h .part) s) s (pass h (returns h k) (h .part)) c refl i (end-does (h .kinds) (h .records) s (h .part))
       (λ n c₁ j t some. every-pass (returns h k) (h .part) n c₁ j (λ w. w .part-within) (λ m c₂ j₁ u. every-return k m c₂ j₁ (omega arith)))
@@ -136,8 +137,8 @@ pub covers-inside : CoversInside
 covers-inside h w =
     every h (λ s t. (p : Placement) → In p t → Inside (h .records .width) (h .records .count) p)
     (λ s n t r e rest. rest)
-    (λ x s n p t i c rest. in-put (Inside (h .records .width) (h .records .count)) (covered-inside h x s n p (h .records .count) i c w (i .in-records w)) rest)
-    (λ s i e. in-done (Inside (h .records .width) (h .records .count)) (s .row + 1))
+    (λ x s n p t i c _ rest. in-put (Inside (h .records .width) (h .records .count)) (covered-inside h x s n p (h .records .count) i c w (i .in-records w)) rest)
+    (λ s i e _. in-done (Inside (h .records .width) (h .records .count)) (s .row + 1))
     (λ s why _. in-stopped (Inside (h .records .width) (h .records .count)) why)
 
 -- from s on the walk reaches a later record than that of s
@@ -148,11 +149,11 @@ reaches : (h : Sheet) → Walkable h → Reaches h start (walk h)
 reaches h w =
     every h (Reaches h)
     (λ s n t r e rest k m. let a = rest k m in (omega arith, a .1, a .2))
-    (λ x s n p t i c rest k m.
+    (λ x s n p t i c _ rest k m.
     let a = rest k (ends-put m) in
     let l : s .row < k = omega (arith, c .moved .row-on) in
     (l, a .1, in-put (Inside (h .records .width) k) (covered-inside h x s n p k i c w l) (a .2)))
-    (λ s i e k m. let d = ends-done m in let l = i .in-records w in (omega arith, omega arith, in-done (Inside (h .records .width) k) (s .row + 1)))
+    (λ s i e _ k m. let d = ends-done m in let l = i .in-records w in (omega arith, omega arith, in-done (Inside (h .records .width) k) (s .row + 1)))
     (λ s why _ k m. absurd (ends-stopped m))
 
 pub covers-reached : CoversReached
@@ -168,8 +169,8 @@ pub elements-suited : ElementsSuited
 elements-suited h =
     every h (λ s t. (p : Placement) → In p t → Suits h p)
     (λ s n t r e rest. rest)
-    (λ x s n p t i c rest. in-put (Suits h) (λ j f e. (rw e at (c .by)) .2) rest)
-    (λ s i e. in-done (Suits h) (s .row + 1))
+    (λ x s n p t i c _ rest. in-put (Suits h) (λ j f e. (rw e at (c .by)) .2) rest)
+    (λ s i e _. in-done (Suits h) (s .row + 1))
     (λ s why _. in-stopped (Suits h) why)
 
 -- a literal covers as many columns as it has characters
@@ -180,8 +181,8 @@ pub literals-wide : LiteralsWide
 literals-wide h =
     every h (λ s t. (p : Placement) → In p t → Literal p)
     (λ s n t r e rest. rest)
-    (λ x s n p t i c rest. in-put Literal (λ cs e. (rw e at (c .by)) .1) rest)
-    (λ s i e. in-done Literal (s .row + 1))
+    (λ x s n p t i c _ rest. in-put Literal (λ cs e. (rw e at (c .by)) .1) rest)
+    (λ s i e _. in-done Literal (s .row + 1))
     (λ s why _. in-stopped Literal why)
 
 -- the elements from that of s on, one of them put or none
@@ -203,8 +204,8 @@ unfolding elementsPut numbersFrom
 puts-remaining h =
     every h (Puts h)
     (λ s n t r e rest k m. rest k m ∙ rw e)
-    (λ x s n p t i c rest k m. puts-one (h .kinds) x s n (p .width) (p .what) (elementsPut t) (c .by) (c .moved .takes) (rest k (ends-put m)))
-    (λ s i e k m. let z : length (h .kinds) - s .taken ≡ 0 = omega arith in rw z)
+    (λ x s n p t i c _ rest k m. puts-one (h .kinds) x s n (p .width) (p .what) (elementsPut t) (c .by) (c .moved .takes) (rest k (ends-put m)))
+    (λ s i e _ k m. let z : length (h .kinds) - s .taken ≡ 0 = omega arith in rw z)
     (λ s why _ k m. absurd (ends-stopped m))
 
 pub puts-each : PutsEach
@@ -264,10 +265,10 @@ unfolding elementsPut
 stopping h =
     every h (Stopping h)
     (λ s n t r e rest y k. let a = rest y k in record { u = a .u; reason = a .reason; takes = omega (arith, a .takes) })
-    (λ x s n p t i c rest y k.
+    (λ x s n p t i c _ rest y k.
     let a = rest y (stops-put k) in
     record { u = a .u; reason = a .reason; takes = a .takes ∙ takes-one (h .kinds) x s n (p .width) (p .what) (elementsPut t) (c .by) (c .moved .takes) })
-    (λ s i e y k. absurd (stops-done k))
+    (λ s i e _ y k. absurd (stops-done k))
     (λ s y g z k. record { u = s; reason = subst (RefusedThere h s) (stops-same k) g; takes = omega arith })
 
 pub refused-because : RefusedBecause

@@ -63,6 +63,6 @@ pub ends-reached : (h : Sheet) (n : ℕ) → EndsWith n (walk h) → 1 ≤ n
 ends-reached h =
     every h (λ s t. (n : ℕ) → EndsWith n t → s .row < n)
     (λ s n t r e rest k m. let l = rest k m in omega arith)
-    (λ x s n p t i c rest k m. let l = rest k (ends-put m) in omega (arith, c .moved .row-on))
-    (λ s i e k m. let d = ends-done m in omega arith)
+    (λ x s n p t i c _ rest k m. let l = rest k (ends-put m) in omega (arith, c .moved .row-on))
+    (λ s i e _ k m. let d = ends-done m in omega arith)
     (λ s why _ k m. absurd (ends-stopped m))

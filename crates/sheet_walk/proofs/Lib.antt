@@ -2,6 +2,7 @@ pub mod WidthLaws
 pub mod StepLaws
 pub mod Returns
 pub mod Covering
+pub mod Coming
 pub mod Beyond
 pub mod Twice
 pub mod Windows

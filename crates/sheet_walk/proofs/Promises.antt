@@ -1,10 +1,11 @@
 -- The theorems on the walk that specs/Promises.antt states.
 -- Assumes nothing.
-use Rattle.sheet_walk.specs.Promises.{WidthRightIs, EndIs, ReturnTakes, ItemRefusedIs, EndRefusedIs, CoversInside, CoversReached, ElementsSuited, PutsEach, LiteralsWide, RecordsBeyond, RefusedBecause, RefusedOnlyThere, CoveredTwiceIs, ColumnsKept}
+use Rattle.sheet_walk.specs.Promises.{WidthRightIs, EndIs, ReturnTakes, ItemRefusedIs, EndRefusedIs, CoversInside, CoversReached, ElementsSuited, PutsEach, LiteralsWide, RecordsBeyond, RefusedBecause, RefusedOnlyThere, EndsExactly, CoversExactly, CoveredTwiceIs, ColumnsKept}
 use Rattle.sheet_walk.proofs.WidthLaws
 use Rattle.sheet_walk.proofs.Returns
 use Rattle.sheet_walk.proofs.Refusing
 use Rattle.sheet_walk.proofs.Covering
+use Rattle.sheet_walk.proofs.Coming
 use Rattle.sheet_walk.proofs.Beyond
 use Rattle.sheet_walk.proofs.Twice
 use Rattle.sheet_walk.proofs.Windows
@@ -55,6 +56,12 @@ refused-because = Covering.refused-because
 
 pub refused-only-there : RefusedOnlyThere
 refused-only-there = Refusing.refused-only-there
+
+pub ends-exactly : EndsExactly
+ends-exactly = Coming.ends-exactly
+
+pub covers-exactly : CoversExactly
+covers-exactly = Coming.covers-exactly
 
 -- ---- columns covered twice
 

@@ -12,9 +12,10 @@ use Rattle.sheet_walk.specs.declared.Refusal.{Refusal}
 use Rattle.sheet_walk.specs.declared.Records.{Records}
 use Rattle.sheet_walk.specs.declared.State.{State}
 use Rattle.sheet_walk.specs.Steps.{refused, fieldWidth, step, endStep}
-use Rattle.sheet_walk.specs.Walk.{Sheet, pass, atEnd, walk}
-use Rattle.sheet_walk.specs.Promises.{ItemRefused, ItemRefusedIs, EndRefused, EndRefusedIs, StopsWith, Comes, RefusedThere, RefusedOnlyThere}
+use Rattle.sheet_walk.specs.Walk.{pass}
+use Rattle.sheet_walk.specs.Promises.{ItemRefused, ItemRefusedIs, EndRefused, EndRefusedIs, StopsWith, RefusedThere, RefusedOnlyThere}
 use Rattle.sheet_walk.proofs.Returns.{end-is}
+use Rattle.sheet_walk.proofs.Coming.{whole-too}
 use Rattle.sheet_walk.proofs.StepLaws.{Does, step-does, AtEnd, end-does}
 
 module _ (kinds : List Kind) (rs : Records) (s : State) where
@@ -42,15 +43,7 @@ end-refused-is kinds rs part s why = (λ e. subst (AtEnd kinds rs s part) e (end
 
 -- ---- the walk
 
--- where what is left of the walk is refused, the walk is
-comes-stops : (h : Sheet) {xs : List Met} {s : State} {why : Refusal} → Comes h xs s → StopsWith why (pass h (atEnd h) xs s) → StopsWith why (walk h)
-unfolding walk pass
-comes-stops h Comes.begins m = m
-comes-stops h (Comes.moved c e) m = comes-stops h c (rw e m)
-comes-stops h (Comes.covered c e) m = comes-stops h c (rw e (StopsWith.there m))
-comes-stops h (Comes.returned {s} c e) m = comes-stops h c (rw (end-is h s, e) m)
-
 pub refused-only-there : RefusedOnlyThere
 unfolding pass
-refused-only-there h s why (RefusedThere.at-item c r) = comes-stops h c (rw (item-refused (h .kinds) (h .records) s r) StopsWith.here)
-refused-only-there h s why (RefusedThere.at-end c r) = comes-stops h c (rw (end-is h s, end-refused (h .kinds) (h .records) s r) StopsWith.here)
+refused-only-there h s why (RefusedThere.at-item c r) = whole-too h (StopsWith why) (λ p t. StopsWith.there) c (rw (item-refused (h .kinds) (h .records) s r) StopsWith.here)
+refused-only-there h s why (RefusedThere.at-end c r) = whole-too h (StopsWith why) (λ p t. StopsWith.there) c (rw (end-is h s, end-refused (h .kinds) (h .records) s r) StopsWith.here)

@@ -11,7 +11,7 @@ use Rattle.format_grammar.specs.Met.{Met}
 use Rattle.format_grammar.specs.Promises.{AllMetWithin}
 use Rattle.list_elements.specs.Elements.{Kind, integer}
 use Rattle.sheet_walk.specs.Refusals.{refusalPlace}
-use Rattle.sheet_walk.specs.Steps.{widthRight, What, element, literal, Placement, suits, fieldWidth, moves, covers, refused, start, step, hasField, endStep}
+use Rattle.sheet_walk.specs.Steps.{widthRight, What, element, literal, Placement, suits, fieldWidth, moves, covers, refused, ends, start, step, hasField, endStep}
 use Rattle.sheet_walk.specs.Walk.{Sheet, Trace, put, done, stopped, return, atEnd, walk}
 use Rattle.sheet_walk.specs.Columns.{In, CoveredTwice, coveredTwice}
 use Rattle.sheet_walk.specs.Laid.{laid, columns}
@@ -162,6 +162,23 @@ RefusedBecause =
 -- and a walk that comes to such a state is refused, for that reason
 abbrev pub RefusedOnlyThere : Type 0
 RefusedOnlyThere = (h : Sheet) (s : State) (why : Refusal) → RefusedThere h s why → StopsWith why (walk h)
+
+-- the walk comes to s, where the next item, or the end of the format, ends it
+pub data EndsThere (h : Sheet) (s : State) : Type 0 where
+  at-item : {x : Met} {xs : List Met} → Comes h (x ∷ xs) s → step (h .kinds) (h .records) x s ≡ ends → EndsThere h s
+  at-end : Comes h [] s → endStep (h .kinds) (h .records) (h .part) s ≡ ends → EndsThere h s
+
+-- the walk ends with n records exactly where it comes to such a state, in the last of n records
+abbrev pub EndsExactly : Type 0
+EndsExactly = (h : Sheet) (n : ℕ) → EndsWith n (walk h) ↔ ((s : State) × EndsThere h s × (n ≡ s .row + 1))
+
+-- the walk comes to an item that covers p
+pub data CoversThere (h : Sheet) (p : Placement) : Type 0 where
+  at-item : {x : Met} {xs : List Met} {s n : State} → Comes h (x ∷ xs) s → step (h .kinds) (h .records) x s ≡ covers p n → CoversThere h p
+
+-- a placement is one of the walk's exactly where the walk comes to an item that covers it
+abbrev pub CoversExactly : Type 0
+CoversExactly = (h : Sheet) (p : Placement) → In p (walk h) ↔ CoversThere h p
 
 -- ---- columns covered twice
 
