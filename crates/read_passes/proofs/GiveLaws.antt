@@ -21,6 +21,7 @@ use Rattle.list_elements.specs.declared.Value.{Value}
 use Rattle.list_elements.specs.declared.Element.{Element}
 use Rattle.list_elements.specs.declared.List as carried
 use Rattle.list_elements.proofs.ContentLaws.{text-length, texts-length, texts-append, texts-one, values-length, value-at}
+use Rattle.list_elements.proofs.Placing.{Placing, placing-none, placing-more, placing-list}
 use Rattle.read_passes.specs.Given.{kindAt}
 use Rattle.read_passes.specs.Passes.{HeldAs, Held}
 
@@ -75,13 +76,13 @@ module _ {records kinds : List ℕ} {amounts : List ℤ} {details : List ℕ} {r
 -- of the elements cs the first i stand in the list and the area, and the next text starts at `at`
 pub record Giving (cs : List Content) (area₀ area : List ℕ) (es : List Element) (at i : ℕ) : Type 0 where
   pub bound : i ≤ length cs
-  pub placed : es ≡ map elementOf (take i (valuesFrom 0 cs)) ++ replicate (mostElements - i) (elementOf zeroValue)
+  pub placed : Placing (valuesFrom 0 cs) es i
   pub bytes : area ≡ splice area₀ 0 (textsOf (take i cs))
   pub start : at ≡ length (textsOf (take i cs))
 
 pub giving-none : {cs : List Content} {area : List ℕ} → Giving cs area area (emptyList .elements) 0 0
 unfolding textsOf
-giving-none {cs} {area} = record { bound = omega arith; placed = refl; bytes = sym (splice-nothing area 0); start = refl }
+giving-none {cs} {area} = record { bound = omega arith; placed = placing-none; bytes = sym (splice-nothing area 0); start = refl }
 
 module _ {records kinds : List ℕ} {amounts : List ℤ} {details : List ℕ} {cs : List Content} {area₀ area : List ℕ} {es : List Element} {at i : ℕ}
     (h : Held records kinds amounts details (length area₀) cs) (g : Giving cs area₀ area es at i) where
@@ -90,16 +91,6 @@ module _ {records kinds : List ℕ} {amounts : List ℤ} {details : List ℕ} {c
   next-room l =
       let m = ap length (texts-more h l) ∙ length-append (textsOf (take i cs)) (bytesOf (getD cs i zeroContent)) in
       omega (arith, g .start, some-room h (i + 1), m, next-text h l)
-
-  set-more : (v : Value) → i < length kinds → v ≡ getD (valuesFrom 0 cs) i zeroValue
-      → set es i (elementOf v) ≡ map elementOf (take (i + 1) (valuesFrom 0 cs)) ++ replicate (mostElements - (i + 1)) (elementOf zeroValue)
-  set-more v l e =
-      let m : i < length (valuesFrom 0 cs) = omega (arith, values-length 0 cs, h .many) in
-      let n : length (map elementOf (take i (valuesFrom 0 cs))) ≡ i = length-map (take i (valuesFrom 0 cs)) elementOf ∙ length-take-le i (valuesFrom 0 cs) (omega arith) in
-      let q : mostElements - i ≡ suc (mostElements - suc i) = omega (arith, h .few) in
-      rw (g .placed, add-one i, q, take-suc (valuesFrom 0 cs) i zeroValue m, map-append elementOf, ← e)
-      (set-at (map elementOf (take i (valuesFrom 0 cs))) (elementOf zeroValue) (replicate (mostElements - suc i) (elementOf zeroValue)) (elementOf v) i n
-      ∙ sym (append-snoc (map elementOf (take i (valuesFrom 0 cs))) (elementOf v) (replicate (mostElements - suc i) (elementOf zeroValue))))
 
   pub giving-more : {v : Value} {area₁ : List ℕ} {len : ℕ} → i < length kinds → v ≡ valueFrom at (getD cs i zeroContent) → area₁ ≡ splice area at (bytesOf (getD cs i zeroContent))
       → len ≡ textLength (kindFrom (getD kinds i 0)) → Giving cs area₀ area₁ (set es i (elementOf v)) (at + len) (i + 1)
@@ -110,18 +101,13 @@ module _ {records kinds : List ℕ} {amounts : List ℤ} {details : List ℕ} {c
       let t = texts-more h l in
       record {
         bound = omega arith;
-        placed = set-more v l x;
+        placed = placing-more (g .placed) (omega (arith, values-length 0 cs)) (omega (arith, h .few)) x;
         bytes = rw t (splice-then area₀ area area₁ 0 at (textsOf (take i cs)) (bytesOf c) (g .bytes) b (g .start ∙ sym (zero-add _)) (omega arith));
         start = rw (t, length-append (textsOf (take i cs)) (bytesOf c)) (omega (arith, g .start, k, next-text h l));
       }
 
   pub giving-list : length kinds ≤ i → _≡_ {A = carried.List} (record { elements = es; count = i }) (listOf (valuesFrom 0 cs))
-  unfolding listOf
-  giving-list l =
-      let n : i ≡ length (valuesFrom 0 cs) = omega (arith, values-length 0 cs, h .many, g .bound) in
-      let e : es ≡ map elementOf (valuesFrom 0 cs) ++ replicate (mostElements - length (valuesFrom 0 cs)) (elementOf zeroValue) =
-      g .placed ∙ rw (n, take-all (length (valuesFrom 0 cs)) (valuesFrom 0 cs) (omega arith)) in
-      rw (e, n)
+  giving-list l = placing-list (g .placed) (omega (arith, values-length 0 cs, h .many, g .bound))
 
   pub giving-texts : length kinds ≤ i → area ≡ laidTexts area₀ cs
   unfolding laidTexts

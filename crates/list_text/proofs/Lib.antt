@@ -1,0 +1,4 @@
+pub mod LineLaws
+pub mod DigitReads
+pub mod ElementLaws
+pub mod ReadLaws

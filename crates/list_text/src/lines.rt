@@ -1,0 +1,31 @@
+// The lines of a text.
+ghost use mathlib.Core.Path.{_≡_};
+ghost use Prim.Native.Nat.{_+_, _≤_};
+ghost use lib.ListN.{length, drop};
+ghost use Rattle.list_text.specs.Lines.{firstLine};
+
+// Where the line ends that starts at `from`: at its line feed, or at the end of the text.
+pub fn line_end(text: &[u8], from: usize) -> usize
+    requires { ⌜ from ≤ length (now text) ⌝ }
+    ensures { λ r. ⌜ (r ≡ from + length (firstLine (drop from (now (text .entry))))) × (r ≤ length (now (text .entry))) ⌝ }
+{
+    let mut i = from;
+    while i < text.len() {
+        if text[i] == b'\n' {
+            return i;
+        }
+        i += 1;
+    }
+    i
+}
+
+// Where the next line starts, after a line's end.
+pub fn next_line(text: &[u8], end: usize) -> usize
+    requires { ⌜ end ≤ length (now text) ⌝ }
+    ensures { λ r. ⌜ (drop r (now (text .entry)) ≡ drop (end + 1) (now (text .entry))) × (r ≤ length (now (text .entry))) ⌝ }
+{
+    if end < text.len() {
+        return end + 1;
+    }
+    end
+}
