@@ -3,7 +3,7 @@ mod columns;
 pub mod decimal;
 pub mod integer;
 pub mod logical;
-mod parts;
+pub mod parts;
 pub mod text;
 
 // The sign in front of a numeral.

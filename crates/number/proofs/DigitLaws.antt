@@ -23,10 +23,10 @@ length-digits (suc k) m = ap suc (length-digits k m)
 
 -- ---- how many
 
-tenth-low : {m x : ℕ} → m < x * 10 → m / 10 < x
+pub tenth-low : {m x : ℕ} → m < x * 10 → m / 10 < x
 tenth-low {m} {x} h = div-lt-iff-lt-mul {k = 10} (omega arith) .1 h
 
-tenth-high : {m x : ℕ} → m / 10 < x → m < x * 10
+pub tenth-high : {m x : ℕ} → m / 10 < x → m < x * 10
 tenth-high {m} {x} h = div-lt-iff-lt-mul {k = 10} (omega arith) .0 h
 
 one-more : (c m k : ℕ) → (0 < k → m / 10 < 10 ^ k → c ≤ k) → 10 ≤ m → m < 10 ^ suc k → suc c ≤ suc k

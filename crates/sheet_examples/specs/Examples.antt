@@ -4,22 +4,15 @@ use mathlib.Core.Path.{_≡_}
 use mathlib.Core.Bool.{cond}
 use mathlib.Core.List.{List, [], _∷_, map}
 use Prim.Native.Nat.{ℕ}
-use Prim.Native.Char.{code}
 use Prim.Native.String.{String}
-use Prim.Native.String as text
 use lib.Dec.{eqb}
 use lib.ListN.{length, replicate}
 use lib.IntN.{ℤ, pos, negℤ}
-use Rattle.buffer.specs.Characters.{blank}
+use Rattle.buffer.specs.Characters.{blank, bytes}
 use Rattle.field_written.specs.Numeral.{I, F, plain}
 use Rattle.field_written.specs.Written.{starred, afterInteger, putDecimal, afterDecimal, putStarred}
 use Rattle.field_read.specs.Read.{readField, readRefusal, readUnits, readPlaces}
 use Rattle.field_read.specs.declared.FieldRead.the-variants.{Refused}
-
--- the bytes of a text
-unfoldable pub bytes : String → List ℕ
-bytes text.[] = []
-bytes (text._∷_ c s) = code c ∷ bytes s
 
 pub data Example : Type 0 where
   -- Iw of n gives the text, and so many starred fields

@@ -19,7 +19,7 @@ use Rattle.list_elements.specs.declared.ListCheck.{ListCheck}
 use Rattle.list_elements.specs.declared.ListCheck.the-variants.{Good}
 use Rattle.sheet_walk.specs.declared.Refusal.the-variants.{RecordWidth}
 use Rattle.sheet_walk.specs.Answers.{answerNumber, answerPlace, answerRecords, answerStarred}
-use Rattle.sheet_write.specs.Writing.{Writing, accepts, refuses, checkFormat, writingOf, writing, answerOf, writeAnswer, writeBuffer, writingNumber, writingPlace, writingRecords, writingStarred}
+use Rattle.sheet_write.specs.Writing.{Writing, accepts, refuses, checkFormat, writingOf, answerOf, bufferOf, writingNumber, writingPlace, writingRecords, writingStarred}
 use Rattle.sheet_write.specs.Parts.{ListedIf, Wrote}
 use Rattle.sheet_walk.specs.declared.Answer.{Answer}
 use Rattle.sheet_walk.specs.declared.Answer.the-variants as answer
@@ -74,25 +74,21 @@ starred-of : (vs : List Value) (w : Writing) → answerStarred (answerOf vs w) �
 starred-of vs (accepts t n) = refl
 starred-of vs (refuses why) = refl
 
--- all that the public call promises
-module _ (R : ℕ) (format : List ℕ) (l : carried.List) (area before : List ℕ) where
-  abbrev became : Writing
-  became = writing R format l area (length before)
-
-  pub finished : {r : Answer} {after : List ℕ} → Wrote R area (values l) before became r after
-      → (r ≡ writeAnswer R format l area before)
-      × ((after ≡ writeBuffer R format l area before)
-      × ((answerNumber r ≡ writingNumber became)
-      × ((answerPlace r ≡ writingPlace became) × ((answerRecords r ≡ writingRecords became) × (answerStarred r ≡ writingStarred (values l) became)))))
-  finished w = (
-    w .answers,
+-- all that a call promises whose writing is w
+module _ {R : ℕ} {area : List ℕ} {vs : List Value} {before : List ℕ} {w : Writing} {r : Answer} {after : List ℕ} (did : Wrote R area vs before w r after) where
+  pub promised : (r ≡ answerOf vs w)
+      × ((after ≡ bufferOf R area vs before w)
+      × ((answerNumber r ≡ writingNumber w)
+      × ((answerPlace r ≡ writingPlace w) × ((answerRecords r ≡ writingRecords w) × (answerStarred r ≡ writingStarred vs w)))))
+  promised = (
+    did .answers,
     (
-      w .bytes,
+      did .bytes,
       (
-        ap answerNumber (w .answers) ∙ number-of (values l) became,
+        ap answerNumber (did .answers) ∙ number-of vs w,
         (
-          ap answerPlace (w .answers) ∙ place-of (values l) became,
-          (ap answerRecords (w .answers) ∙ records-of (values l) became, ap answerStarred (w .answers) ∙ starred-of (values l) became),
+          ap answerPlace (did .answers) ∙ place-of vs w,
+          (ap answerRecords (did .answers) ∙ records-of vs w, ap answerStarred (did .answers) ∙ starred-of vs w),
         ),
       ),
     ),

@@ -8,7 +8,7 @@ use lib.Seq.{length-take-le}
 use Rattle.list_elements.specs.Elements.{values}
 use Rattle.list_elements.specs.Limits.{withinLimits, listCheck}
 use Rattle.list_elements.proofs.ApartLaws.{usable-few}
-use Rattle.sheet_write.proofs.Whole.{width-none, width-over, width-right, listed-if, finished}
+use Rattle.sheet_write.proofs.Whole.{width-none, width-over, width-right, listed-if, promised}
 use borrow.Author.Needs.{needs}
 use Rattle.sheet_write.proofs.write.write.Statement.{statement}
 use Rattle.sheet_write.proofs.write.write.Tie as tie
@@ -20,10 +20,10 @@ few c =
     rw (c .usable .ensures) (usable-few (withinLimits (a .args .area .now)) (a .args .list) (c .before .before .before .before .take-apart .result) (c .before .before .before .before .take-apart .ensures .0))
 
 returns : tie.Need-returns
-returns c = let a = c .before .before .before .before in finished (a .args .width) (a .args .format .now) (a .args .list) (a .args .area .now) (a .args .buffer .now) (width-none (a .args .width) (a .args .format .now) (listCheck (a .args .area .now) (a .args .list)) (values (a .args .list)) (a .args .buffer .now) (c .if1 .taken))
+returns c = let a = c .before .before .before .before in promised (width-none (a .args .width) (a .args .format .now) (listCheck (a .args .area .now) (a .args .list)) (values (a .args .list)) (a .args .buffer .now) (c .if1 .taken))
 
 returns-2 : tie.Need-returns-2
-returns-2 c = let a = c .before .before .before .before .before in finished (a .args .width) (a .args .format .now) (a .args .list) (a .args .area .now) (a .args .buffer .now) (width-over (a .args .width) (a .args .format .now) (listCheck (a .args .area .now) (a .args .list)) (values (a .args .list)) (a .args .buffer .now) (omega (arith, c .before .if1 .left)) (c .if2 .taken))
+returns-2 c = let a = c .before .before .before .before .before in promised (width-over (a .args .width) (a .args .format .now) (listCheck (a .args .area .now) (a .args .list)) (values (a .args .list)) (a .args .buffer .now) (omega (arith, c .before .if1 .left)) (c .if2 .taken))
 
 slice-aggregate-take-apart : tie.Need-slice-aggregate-take-apart
 slice-aggregate-take-apart c = search needs
@@ -65,7 +65,7 @@ same-length : tie.Need-same-length
 same-length c = search needs
 
 returns-3 : tie.Need-returns-3
-returns-3 c = let a = c .before .before .before .before .before .before .before .before .before .before .before .before .before .before .before .before .before .before .before .before in let t = c .before .before .before .before .before .before .before .before .before .before .before .take-apart in let g : length (t .last .1 .1 .0) ≡ 64 = search needs in finished (a .args .width) (a .args .format .now) (a .args .list) (a .args .area .now) (a .args .buffer .now) (width-right (a .args .width) (a .args .format .now) (listCheck (a .args .area .now) (a .args .list)) (values (a .args .list)) (a .args .buffer .now) (omega (arith, c .before .before .before .before .before .before .before .before .before .before .before .before .before .before .before .before .if1 .left)) (omega (arith, c .before .before .before .before .before .before .before .before .before .before .before .before .before .before .before .if2 .left)) (t .result) (t .ensures .0) (c .before .before .write-small .ensures .wrote (values (a .args .list)) (listed-if (a .args .area .now) (a .args .list) (t .result) (t .ensures .0) (t .last .1 .1 .0) (t .last .1 .1 .1 .0) (t .last .1 .1 .1 .1 .0) g (t .ensures .1) (c .before .before .before .before .before .before .before .usable .ensures))))
+returns-3 c = let a = c .before .before .before .before .before .before .before .before .before .before .before .before .before .before .before .before .before .before .before .before in let t = c .before .before .before .before .before .before .before .before .before .before .before .take-apart in let g : length (t .last .1 .1 .0) ≡ 64 = search needs in promised (width-right (a .args .width) (a .args .format .now) (listCheck (a .args .area .now) (a .args .list)) (values (a .args .list)) (a .args .buffer .now) (omega (arith, c .before .before .before .before .before .before .before .before .before .before .before .before .before .before .before .before .if1 .left)) (omega (arith, c .before .before .before .before .before .before .before .before .before .before .before .before .before .before .before .if2 .left)) (t .result) (t .ensures .0) (c .before .before .write-small .ensures .wrote (values (a .args .list)) (listed-if (a .args .area .now) (a .args .list) (t .result) (t .ensures .0) (t .last .1 .1 .0) (t .last .1 .1 .1 .0) (t .last .1 .1 .1 .1 .0) g (t .ensures .1) (c .before .before .before .before .before .before .before .usable .ensures))))
 
 pub write-spec : {M : Type 1} → statement M
 write-spec =

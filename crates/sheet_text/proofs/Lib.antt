@@ -1,0 +1,7 @@
+pub mod NumeralLaws
+pub mod LineLaws
+pub mod RecordLaws
+pub mod TextLaws
+pub mod PutLaws
+pub mod WidthLaws
+pub mod SheetLaws

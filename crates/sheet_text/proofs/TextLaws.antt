@@ -1,0 +1,150 @@
+-- Writing from a list text.
+-- Assumes nothing.
+use mathlib.Core.Path.{_≡_, refl, sym, ap, subst, _∙_}
+use mathlib.Core.Bool.{Bool, true, false, cond}
+use mathlib.Core.List.{List, []}
+use Prim.Native.Nat.{ℕ, _*_, _<_, _≤_}
+use native.Mathlib.Nat.{mul-le-mul-left, mul-one}
+use native.Mathlib.Omega.{arith}
+use borrow.Author.Tests.{le-leb, lt-leb}
+use lib.ListN.{length}
+use Rattle.format_grammar.specs.Check.{Outcome, accepted, refused, outcome}
+use Rattle.format_check.specs.Checked.{answer}
+use Rattle.format_check.specs.declared.FormatCheck.{FormatCheck}
+use Rattle.format_check.specs.declared.FormatCheck.the-variants as check
+use Rattle.format_grammar.specs.declared.FormatRefusal.{FormatRefusal}
+use Rattle.list_elements.specs.Elements.{values}
+use Rattle.list_elements.specs.Limits.{listCheck}
+use Rattle.list_elements.specs.Contents.{listOf}
+use Rattle.list_elements.proofs.ContentLaws.{values-list}
+use Rattle.list_elements.specs.declared.Value.{Value}
+use Rattle.list_elements.specs.declared.List as carried
+use Rattle.list_elements.specs.declared.ListCheck.{ListCheck}
+use Rattle.list_elements.specs.declared.ListCheck.the-variants.{Good, Bad}
+use Rattle.sheet_walk.specs.Steps.{widthRight}
+use Rattle.sheet_walk.specs.declared.Refusal.{Refusal}
+use Rattle.sheet_walk.specs.declared.Refusal.the-variants.{RecordWidth, Format, Element}
+use Rattle.sheet_walk.specs.declared.Answer.{Answer}
+use Rattle.sheet_walk.specs.declared.Answer.the-variants.{Refused}
+use Rattle.sheet_write.specs.Writing.{Writing, accepts, refuses, checkFormat, writingOf, writing, answerOf, bufferOf, writeAnswer, writeBuffer}
+use Rattle.sheet_write.specs.Parts.{Wrote}
+use Rattle.sheet_write.specs.Promises.{Call, becomes}
+use Rattle.sheet_write.proofs.Promises.{accepts-exactly, records-reached}
+use Rattle.sheet_walk.specs.Walk.{Trace}
+use Rattle.sheet_walk.specs.Answers.{answerRecords}
+use Rattle.list_text.specs.ListText.{textValues, textCheck, listGiven, textList}
+use Rattle.sheet_text.specs.TextWriting.{textWriting, textAnswer}
+use Rattle.sheet_text.specs.Parts.{badListAnswer}
+use Rattle.sheet_text.specs.Promises.{TextWritingIs}
+
+-- ---- the list of a list text
+
+pub text-list-check : (text : List ℕ) → listCheck text (listOf (textValues text)) ≡ textCheck text
+unfolding listOf textCheck
+text-list-check text = rw (values-list (textValues text))
+
+pub text-writing-is : TextWritingIs
+text-writing-is R format text B = rw (text-list-check text, values-list (textValues text))
+
+-- ---- a list that row 6 refuses
+
+-- what becomes of it, by the rows before: whatever its values and the buffer, it is refused
+bad-format : (R : ℕ) (p : ℕ) (vs : List Value) (B : ℕ) (o : Outcome) → checkFormat R o (Bad p) vs B ≡ checkFormat R o (Bad p) [] 0
+bad-format R p vs B (accepted xs) = refl
+bad-format R p vs B (refused why) = refl
+
+bad-writing : (R : ℕ) (format : List ℕ) (p : ℕ) (vs : List Value) (B : ℕ) → writingOf R format (Bad p) vs B ≡ writingOf R format (Bad p) [] 0
+unfolding writingOf
+bad-writing R format p vs B = ap (λ (w : Writing). cond (widthRight R) w (refuses RecordWidth)) (bad-format R p vs B (outcome format))
+
+-- refused, so that neither the values nor the buffer before matter
+pub data IsRefused : Writing → Type 0 where
+  refused-by : (why : Refusal) → IsRefused (refuses why)
+
+bad-is-format : (R p : ℕ) (o : Outcome) → IsRefused (checkFormat R o (Bad p) [] 0)
+bad-is-format R p (accepted xs) = IsRefused.refused-by (Element p)
+bad-is-format R p (refused why) = IsRefused.refused-by (Format why)
+
+bad-is-refused : (R : ℕ) (format : List ℕ) (p : ℕ) → IsRefused (writingOf R format (Bad p) [] 0)
+unfolding writingOf
+bad-is-refused R format p = go (widthRight R)
+  where
+    go : (b : Bool) → IsRefused (cond b (checkFormat R (outcome format) (Bad p) [] 0) (refuses RecordWidth))
+    go true = bad-is-format R p (outcome format)
+    go false = IsRefused.refused-by RecordWidth
+
+refused-wrote : {R : ℕ} {area : List ℕ} {vs : List Value} {before : List ℕ} {w : Writing} → IsRefused w → (ws : List Value) {r : Answer} → r ≡ answerOf ws w → Wrote R area vs before w r before
+refused-wrote (IsRefused.refused-by why) ws e = record { answers = e; bytes = refl }
+
+pub bad-wrote : (R : ℕ) (format text before : List ℕ) {p : ℕ} {r : Answer} → textCheck text ≡ Bad p → r ≡ badListAnswer R format p
+    → Wrote R text (textValues text) before (textWriting R format text (length before)) r before
+bad-wrote R format text before {p} {r} e f =
+    subst (λ w. Wrote R text (textValues text) before w r before) (sym (bad-writing R format p (textValues text) (length before)) ∙ ap (λ k. writingOf R format k (textValues text) (length before)) (sym e))
+    (refused-wrote (bad-is-refused R format p) [] f)
+
+-- its answer, row by row
+module _ (R : ℕ) (format : List ℕ) (p : ℕ) where
+  pub bad-width-none : R < 1 → Refused RecordWidth ≡ badListAnswer R format p
+  unfolding writingOf
+  bad-width-none h = rw (lt-leb 1 R h)
+
+  module _ (low : 1 ≤ R) where
+    pub bad-width-over : 255 < R → Refused RecordWidth ≡ badListAnswer R format p
+    unfolding writingOf
+    bad-width-over h = rw (le-leb 1 R low, lt-leb R 255 h)
+
+    module _ (high : R ≤ 255) where
+      right : badListAnswer R format p ≡ answerOf [] (checkFormat R (outcome format) (Bad p) [] 0)
+      unfolding writingOf
+      right = rw (le-leb 1 R low, le-leb R 255 high)
+
+      answered : (o : Outcome) → outcome format ≡ o → {k : FormatCheck} → k ≡ answer o → (r : Answer)
+          → ((xs : _) → o ≡ accepted xs → r ≡ Refused (Element p)) → ((why : FormatRefusal) → k ≡ check.Refused why → r ≡ Refused (Format why)) → r ≡ badListAnswer R format p
+      answered (accepted xs) e f r a b = a xs refl ∙ sym (right ∙ rw e)
+      answered (refused why) e f r a b = b why f ∙ sym (right ∙ rw e)
+
+      pub bad-format-right : {k : FormatCheck} → k ≡ answer (outcome format) → k ≡ check.Accepted → Refused (Element p) ≡ badListAnswer R format p
+      bad-format-right e f = answered (outcome format) refl e (Refused (Element p)) (λ xs q. refl) (λ why q. let z : _≡_ {A = ℕ} 0 1 = cc in absurd (omega arith))
+
+      pub bad-format-wrong : {k : FormatCheck} {why : FormatRefusal} → k ≡ answer (outcome format) → k ≡ check.Refused why → Refused (Format why) ≡ badListAnswer R format p
+      bad-format-wrong {k} {why} e f = go (outcome format) refl
+        where
+          go : (o : Outcome) → outcome format ≡ o → Refused (Format why) ≡ badListAnswer R format p
+          go (accepted xs) q = let g : k ≡ check.Accepted = e ∙ ap answer q in let z : _≡_ {A = ℕ} 0 1 = cc in absurd (omega arith)
+          go (refused why₂) q = let g : k ≡ check.Refused why₂ = e ∙ ap answer q in let h : why ≡ why₂ = cc in ap (λ x. Refused (Format x)) h ∙ sym (right ∙ rw q)
+
+-- ---- a good list
+
+pub good-wrote : (R : ℕ) (format text before : List ℕ) {k : ListCheck} {l : carried.List} {r : Answer} {after : List ℕ} → k ≡ textCheck text → k ≡ Good → l ≡ textList text
+    → r ≡ writeAnswer R format l text before → after ≡ writeBuffer R format l text before
+    → Wrote R text (textValues text) before (textWriting R format text (length before)) r after
+good-wrote R format text before {k} {l} {r} {after} e g q a b =
+    let m : l ≡ listOf (textValues text) = q ∙ ap (λ x. listGiven x (textValues text)) (sym e ∙ g) in
+    let v : values l ≡ textValues text = ap values m ∙ values-list (textValues text) in
+    let w : writing R format l text (length before) ≡ textWriting R format text (length before) =
+    ap (λ x. writing R format x text (length before)) m ∙ sym (text-writing-is R format text (length before)) in
+    record { answers = a ∙ rw (w, v); bytes = b ∙ rw (w, v) }
+
+-- ---- an accepted writing
+
+-- the call of writing with the list of the list text
+abbrev pub callOf : ℕ → List ℕ → List ℕ → List ℕ → Call
+callOf R format text buffer = record { R = R; format = format; list = listOf (textValues text); area = text; buffer = buffer }
+
+module _ (R : ℕ) (format text buffer : List ℕ) where
+  pub text-called : (t : Trace) (n : ℕ) → textWriting R format text (length buffer) ≡ accepts t n → becomes (callOf R format text buffer) ≡ accepts t n
+  text-called t n e = sym (text-writing-is R format text (length buffer)) ∙ e
+
+  -- n records of R bytes fit into the buffer, and n is no more than these bytes
+  pub text-reached : (t : Trace) (n : ℕ) → textWriting R format text (length buffer) ≡ accepts t n → (n * R ≤ length buffer) × (n ≤ n * R)
+  text-reached t n e =
+      let a = accepts-exactly (callOf R format text buffer) t n .0 (text-called t n e) in
+      let h : n * 1 ≤ n * R = mul-le-mul-left n (a .walks .width .from) in
+      (records-reached (callOf R format text buffer) t n (text-called t n e) .3, omega (arith, mul-one n))
+
+  pub text-records : answerRecords (textAnswer R format text buffer) ≤ length buffer
+  text-records = go (textWriting R format text (length buffer)) refl
+    where
+      go : (w : Writing) → textWriting R format text (length buffer) ≡ w → answerRecords (answerOf (textValues text) w) ≤ length buffer
+      go (accepts t n) e = let r = text-reached t n e in omega arith
+      go (refuses why) e = omega arith
