@@ -8,6 +8,7 @@ use lib.ListN.{length, length-append}
 use Rattle.buffer.specs.Characters.{blank, bytes}
 use Rattle.buffer.specs.Splice.{splice}
 use Rattle.buffer.proofs.Splicing.{splice-then}
+use Rattle.buffer.proofs.SpliceBytes.{length-splice}
 use Rattle.list_text.specs.Lines.{lineFeed}
 use Rattle.sheet_text.specs.Output.{numeral, countsLine, refusedLine}
 
@@ -35,3 +36,7 @@ put-all e p h = rw (← e) (p .is, p .after, h)
 
 pub put-from-start : {d xs ys d₁ : List ℕ} {end : ℕ} → xs ≡ ys → Put d 0 xs d₁ end → end ≤ 96 → (d₁ ≡ splice d 0 ys) × (end ≡ length ys) × (end ≤ 96)
 put-from-start e p h = rw (← e) (p .is, omega (arith, p .after), h)
+
+-- the output's buffer keeps its length
+pub output-room : (d xs : List ℕ) {d₁ : List ℕ} {r : ℕ} → d₁ ≡ splice d 0 xs → r ≡ length xs → r ≤ length d → r ≤ length d₁
+output-room d xs e l h = rw (e, length-splice d 0 xs (omega arith)) h
