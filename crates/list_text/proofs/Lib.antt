@@ -2,3 +2,4 @@ pub mod LineLaws
 pub mod DigitReads
 pub mod ElementLaws
 pub mod ReadLaws
+pub mod Longest

@@ -5,3 +5,4 @@ pub mod TextLaws
 pub mod PutLaws
 pub mod WidthLaws
 pub mod SheetLaws
+pub mod Unread

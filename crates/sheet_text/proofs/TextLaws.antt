@@ -53,7 +53,7 @@ bad-format : (R : ℕ) (p : ℕ) (vs : List Value) (B : ℕ) (o : Outcome) → c
 bad-format R p vs B (accepted xs) = refl
 bad-format R p vs B (refused why) = refl
 
-bad-writing : (R : ℕ) (format : List ℕ) (p : ℕ) (vs : List Value) (B : ℕ) → writingOf R format (Bad p) vs B ≡ writingOf R format (Bad p) [] 0
+pub bad-writing : (R : ℕ) (format : List ℕ) (p : ℕ) (vs : List Value) (B : ℕ) → writingOf R format (Bad p) vs B ≡ writingOf R format (Bad p) [] 0
 unfolding writingOf
 bad-writing R format p vs B = ap (λ (w : Writing). cond (widthRight R) w (refuses RecordWidth)) (bad-format R p vs B (outcome format))
 
@@ -65,7 +65,7 @@ bad-is-format : (R p : ℕ) (o : Outcome) → IsRefused (checkFormat R o (Bad p)
 bad-is-format R p (accepted xs) = IsRefused.refused-by (Element p)
 bad-is-format R p (refused why) = IsRefused.refused-by (Format why)
 
-bad-is-refused : (R : ℕ) (format : List ℕ) (p : ℕ) → IsRefused (writingOf R format (Bad p) [] 0)
+pub bad-is-refused : (R : ℕ) (format : List ℕ) (p : ℕ) → IsRefused (writingOf R format (Bad p) [] 0)
 unfolding writingOf
 bad-is-refused R format p = go (widthRight R)
   where

@@ -1,0 +1,100 @@
+-- What lies past the longest input does not matter.
+-- Assumes nothing.
+use mathlib.Core.Path.{_≡_, refl, sym, ap, _∙_}
+use mathlib.Core.Bool.{Bool, true, false, cond}
+use mathlib.Core.List.{List, [], _++_}
+use Prim.Native.Nat.{ℕ, _+_, _-_, _<_, _≤_}
+use native.Mathlib.Decide.{decLt}
+use native.Mathlib.Omega.{arith}
+use borrow.Author.Tests.{lt-ltb}
+use lib.ListN.{length}
+use Rattle.format_grammar.specs.Check.{longestFormat, outcome, refused}
+use Rattle.format_grammar.specs.declared.FormatRefusal.the-variants.{Length}
+use Rattle.list_elements.specs.declared.Value.{Value}
+use Rattle.list_elements.specs.declared.ListCheck.{ListCheck}
+use Rattle.list_elements.specs.declared.ListCheck.the-variants.{Bad}
+use Rattle.sheet_walk.specs.Steps.{widthRight}
+use Rattle.sheet_walk.specs.declared.Refusal.the-variants.{RecordWidth, Format}
+use Rattle.sheet_write.specs.Writing.{Writing, accepts, refuses, writingOf}
+use Rattle.list_text.specs.Lines.{firstLine, afterLine}
+use Rattle.list_text.specs.ListText.{textValues, textCheck}
+use Rattle.list_text.specs.Promises.{longestList}
+use Rattle.list_text.proofs.LineLaws.{line-short}
+use Rattle.list_text.proofs.Longest.{line-over, line-ended, after-long, digits-over, long-refused}
+use Rattle.sheet_text.specs.Input.{widthOn, inputWidth, inputFormat, inputList}
+use Rattle.sheet_text.specs.Output.{outputOf}
+use Rattle.sheet_text.specs.SheetText.{recordBuffer, sheetText}
+use Rattle.sheet_text.specs.Promises.{RestUnread}
+use Rattle.sheet_text.proofs.TextLaws.{IsRefused, bad-writing, bad-is-refused}
+
+-- the output for a width, a format and a list text
+unfoldable out : ℕ → List ℕ → List ℕ → List ℕ
+out R format text = outputOf R text (textValues text) (writingOf R format (textCheck text) (textValues text) recordBuffer)
+
+-- that of a refused writing depends on nothing else
+same-refusal : {w : Writing} → IsRefused w → (R S : ℕ) (a b : List ℕ) (vs ws : List Value) → outputOf R a vs w ≡ outputOf S b ws w
+same-refusal (IsRefused.refused-by why) R S a b vs ws = refl
+
+-- ---- a width that is refused
+
+wide-out : (R : ℕ) (f g a b : List ℕ) → widthRight R ≡ false → out R f a ≡ out R g b
+unfolding out writingOf
+wide-out R f g a b e = rw e
+
+line-wide : (l : List ℕ) → 3 < length l → widthOn l ≡ 0
+unfolding widthOn
+line-wide l h = rw (digits-over 3 l h)
+
+-- ---- a format that is too long
+
+long-outcome : (f : List ℕ) → longestFormat < length f → outcome f ≡ refused Length
+unfolding outcome
+long-outcome f h = rw (lt-ltb longestFormat (length f) h)
+
+format-out : (R : ℕ) (f g a b : List ℕ) → longestFormat < length f → longestFormat < length g → out R f a ≡ out R g b
+unfolding out writingOf
+format-out R f g a b h k =
+    rw (long-outcome f h, long-outcome g k)
+    (go (widthRight R))
+  where
+    go : (t : Bool) → outputOf R a (textValues a) (cond t (refuses (Format Length)) (refuses RecordWidth)) ≡ outputOf R b (textValues b) (cond t (refuses (Format Length)) (refuses RecordWidth))
+    go true = refl
+    go false = refl
+
+-- ---- a list text that is too long
+
+list-out : (R : ℕ) (f a b : List ℕ) (p : ℕ) → textCheck a ≡ Bad p → textCheck b ≡ Bad p → out R f a ≡ out R f b
+unfolding out
+list-out R f a b p e g =
+    rw (e, g, bad-writing R f p (textValues a) recordBuffer, bad-writing R f p (textValues b) recordBuffer)
+    (same-refusal (bad-is-refused R f p) R R a b (textValues a) (textValues b))
+
+-- ---- line by line
+
+-- from the list text on, after a first line and a format that are not too long
+rest-list : (R : ℕ) (f s more : List ℕ) → longestList < length s → out R f (s ++ more) ≡ out R f s
+rest-list R f s more h = let w = long-refused s more h in list-out R f (s ++ more) s (w .place) (w .whole) (w .short)
+
+-- from the format on
+rest-format : (R : ℕ) (s more : List ℕ) → longestFormat + 1 + longestList < length s → out R (firstLine (s ++ more)) (afterLine (s ++ more)) ≡ out R (firstLine s) (afterLine s)
+rest-format R s more h = go (decLt longestFormat (length (firstLine s)))
+  where
+    go : Dec (longestFormat < length (firstLine s)) → out R (firstLine (s ++ more)) (afterLine (s ++ more)) ≡ out R (firstLine s) (afterLine s)
+    go (yes long) =
+        format-out R (firstLine (s ++ more)) (firstLine s) (afterLine (s ++ more)) (afterLine s) (omega (arith, line-over s more)) long
+    go (no short) =
+        let e = line-ended s more (omega arith) in
+        rw (e .0, e .1) (rest-list R (firstLine s) (afterLine s) more (omega (arith, after-long s)))
+
+pub rest-unread : RestUnread
+unfolding sheetText out
+rest-unread s more h = go (decLt 3 (length (firstLine s)))
+  where
+    go : Dec (3 < length (firstLine s)) → out (inputWidth (s ++ more)) (inputFormat (s ++ more)) (inputList (s ++ more)) ≡ out (inputWidth s) (inputFormat s) (inputList s)
+    go (yes long) =
+        let a = line-wide (firstLine s) long in
+        let b = line-wide (firstLine (s ++ more)) (omega (arith, line-over s more)) in
+        rw (a, b) (wide-out 0 (inputFormat (s ++ more)) (inputFormat s) (inputList (s ++ more)) (inputList s) refl)
+    go (no short) =
+        let e = line-ended s more (omega arith) in
+        rw (e .0, e .1) (rest-format (inputWidth s) (afterLine s) more (omega (arith, after-long s)))
