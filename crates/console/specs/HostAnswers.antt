@@ -10,11 +10,11 @@ use Rattle.sheet_walk.specs.declared.Answer.{Answer}
 use Rattle.sheet_walk.specs.declared.Answer.the-variants as answer
 
 -- of writing
-abbrev pub writeNumber : Answer → ℤ
-writeNumber (answer.Accepted n k) = pos n
-writeNumber (answer.Refused why) = negℤ (pos (refusalNumber why))
+abbrev pub hostWriteNumber : Answer → ℤ
+hostWriteNumber (answer.Accepted n k) = pos n
+hostWriteNumber (answer.Refused why) = negℤ (pos (refusalNumber why))
 
 -- of the format check
-abbrev pub checkNumber : FormatCheck → ℤ
-checkNumber check.Accepted = pos 0
-checkNumber (check.Refused why) = negℤ (pos (format.refusalNumber why))
+abbrev pub hostCheckNumber : FormatCheck → ℤ
+hostCheckNumber check.Accepted = pos 0
+hostCheckNumber (check.Refused why) = negℤ (pos (format.refusalNumber why))

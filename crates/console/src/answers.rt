@@ -5,12 +5,12 @@ use sheet_walk::Answer;
 ghost use mathlib.Core.Path.{_≡_};
 ghost use Prim.Native.Nat.{_^_, _<_};
 ghost use Rattle.sheet_walk.specs.Answers.{answerRecords};
-ghost use Rattle.console.specs.HostAnswers.{writeNumber, checkNumber};
+ghost use Rattle.console.specs.HostAnswers.{hostWriteNumber, hostCheckNumber};
 
 // The records written, or the refusal's number negated.
 pub fn write_answer(answer: Answer) -> i64
     requires { ⌜ answerRecords answer < 2 ^ 63 ⌝ }
-    ensures { λ r. ⌜ r ≡ writeNumber answer ⌝ }
+    ensures { λ r. ⌜ r ≡ hostWriteNumber answer ⌝ }
 {
     match answer {
         Answer::Accepted {
@@ -23,7 +23,7 @@ pub fn write_answer(answer: Answer) -> i64
 
 // 0, or the refusal's number negated.
 pub fn check_answer(answer: FormatCheck) -> i64
-    ensures { λ r. ⌜ r ≡ checkNumber answer ⌝ }
+    ensures { λ r. ⌜ r ≡ hostCheckNumber answer ⌝ }
 {
     match answer {
         FormatCheck::Accepted => 0,

@@ -85,7 +85,7 @@ module _ (most : ℕ) (s : List ℕ) where
 
 -- ---- what an answer says of the text
 
-and-true : (a b : Bool) → (a && b) ≡ true → (a ≡ true) × (b ≡ true)
+pub and-true : (a b : Bool) → (a && b) ≡ true → (a ≡ true) × (b ≡ true)
 and-true true b e = (refl, e)
 and-true false b e = absurd (false≢true e)
 

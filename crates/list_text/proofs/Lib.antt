@@ -3,3 +3,4 @@ pub mod DigitReads
 pub mod ElementLaws
 pub mod ReadLaws
 pub mod Longest
+pub mod ElementWords

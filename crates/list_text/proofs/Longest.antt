@@ -22,8 +22,8 @@ use Rattle.list_elements.specs.declared.Value.the-variants as value
 use Rattle.list_elements.specs.declared.ListCheck.the-variants.{Good, Bad}
 use Rattle.list_text.specs.Lines.{lineFeed, firstLine, afterLine, lines}
 use Rattle.list_text.specs.ElementLines.{someDigits, hasMinus, afterMinus, isNumber, numberOf, malformed, integerLine, unitsPart, placesByte, decimalLine, logicalLine, begins, letterI, letterD, letterL, letterA, elementOn}
-use Rattle.list_text.specs.ListText.{elementsFrom, textValues, textCheck}
-use Rattle.list_text.specs.Promises.{longestLine, longestList, RefusedAlike, LongRefused}
+use Rattle.list_text.specs.ListText.{elementsFrom, lineValues, lineCheck}
+use Rattle.list_text.specs.Promises.{MalformedOutside, longestLine, RefusedAlike, LongRefused}
 use Rattle.list_text.proofs.LineLaws.{line-short, after-is, lines-are}
 
 -- ---- a text and what follows it
@@ -74,7 +74,7 @@ number-long s h = digits-over 18 (afterMinus s) (go (hasMinus s))
     go true = rw length-drop (omega arith)
     go false = omega arith
 
-wrong-outside : (area : List ℕ) → withinLimits area malformed ≡ false
+pub wrong-outside : MalformedOutside
 unfolding withinLimits
 wrong-outside area = refl
 
@@ -233,16 +233,16 @@ module _ (s more : List ℕ) where
 
 -- ---- the whole text
 
-concluded : (s more : List ℕ) → Alike 0 mostElements (withinLimits s) (withinLimits (s ++ more)) (textValues s) (textValues (s ++ more)) → RefusedAlike s more
-unfolding textCheck checkValues
+concluded : (s more : List ℕ) → Alike 0 mostElements (withinLimits s) (withinLimits (s ++ more)) (lineValues s) (lineValues (s ++ more)) → RefusedAlike s more
+unfolding lineCheck checkValues
 concluded s more (Alike.fails p e f) = record { place = p; short = rw e; whole = rw f }
 concluded s more (Alike.passes e f g h) =
     record {
       place = mostElements;
-      short = rw (e, lt-ltb mostElements (length (textValues s)) g);
-      whole = rw (f, lt-ltb mostElements (length (textValues (s ++ more))) h);
+      short = rw (e, lt-ltb mostElements (length (lineValues s)) g);
+      whole = rw (f, lt-ltb mostElements (length (lineValues (s ++ more))) h);
     }
 
 pub long-refused : LongRefused
-unfolding textValues
+unfolding lineValues
 long-refused s more h = concluded s more (alike s more mostElements 0 0 s h (omega arith))

@@ -22,7 +22,7 @@ use Rattle.list_elements.specs.declared.ListCheck.the-variants.{Good, Bad}
 use Rattle.list_elements.proofs.Placing.{Placing, placing-none, placing-more, placing-list}
 use Rattle.list_text.specs.Lines.{firstLine, afterLine, lines}
 use Rattle.list_text.specs.ElementLines.{elementOn}
-use Rattle.list_text.specs.ListText.{elementsFrom, textValues, textCheck, textList}
+use Rattle.list_text.specs.ListText.{elementsFrom, lineValues, lineCheck, lineList}
 use Rattle.list_text.proofs.LineLaws.{after-is, line-is, lines-are}
 
 -- ---- what is left of a list of values
@@ -78,13 +78,13 @@ module _ {test : Value → Bool} {vs : List Value} {n : ℕ} (p : Passed test vs
 
 pub record Reading (s : List ℕ) (es : List Element) (n at : ℕ) : Type 0 where
   pub few : n ≤ mostElements
-  pub bound : n ≤ length (textValues s)
-  pub passed : Passed (withinLimits s) (textValues s) n
-  pub placed : Placing (textValues s) es n
-  pub left : drop n (textValues s) ≡ elementsFrom at (lines (drop at s))
+  pub bound : n ≤ length (lineValues s)
+  pub passed : Passed (withinLimits s) (lineValues s) n
+  pub placed : Placing (lineValues s) es n
+  pub left : drop n (lineValues s) ≡ elementsFrom at (lines (drop at s))
 
 pub reading-none : (s : List ℕ) → Reading s (emptyList .elements) 0 0
-unfolding textValues
+unfolding lineValues
 reading-none s = record { few = omega arith; bound = omega arith; passed = record { before = λ ys. refl }; placed = placing-none; left = refl }
 
 -- the element of a line, as a slice has it
@@ -99,26 +99,26 @@ module _ {s : List ℕ} {es : List Element} {n at : ℕ} (r : Reading s es n at)
     abbrev next : Value
     next = elementOn at (firstLine (drop at s))
 
-    next-left : drop n (textValues s) ≡ next ∷ elementsFrom (at + length (firstLine (drop at s)) + 1) (lines (afterLine (drop at s)))
+    next-left : drop n (lineValues s) ≡ next ∷ elementsFrom (at + length (firstLine (drop at s)) + 1) (lines (afterLine (drop at s)))
     unfolding elementsFrom
     next-left = r .left ∙ rw (lines-are (drop at s) (rw length-drop (omega arith)))
 
-    pub reading-over : n ≡ mostElements → Bad mostElements ≡ textCheck s
-    unfolding textCheck checkValues
+    pub reading-over : n ≡ mostElements → Bad mostElements ≡ lineCheck s
+    unfolding lineCheck checkValues
     reading-over e =
-        let l : mostElements < length (textValues s) = omega (arith, left-some (textValues s) n next-left) in
-        rw (← e) (rw (passed-good (r .passed)) (rw e (rw (lt-ltb mostElements (length (textValues s)) l))))
+        let l : mostElements < length (lineValues s) = omega (arith, left-some (lineValues s) n next-left) in
+        rw (← e) (rw (passed-good (r .passed)) (rw e (rw (lt-ltb mostElements (length (lineValues s)) l))))
 
-    pub reading-bad : {v : Value} → v ≡ next → (n ≡ mostElements → ⊥) → withinLimits s v ≡ false → Bad n ≡ textCheck s
-    unfolding textCheck checkValues
+    pub reading-bad : {v : Value} → v ≡ next → (n ≡ mostElements → ⊥) → withinLimits s v ≡ false → Bad n ≡ lineCheck s
+    unfolding lineCheck checkValues
     reading-bad {v} e m t =
-        let g : withinLimits s (getD (textValues s) n zeroValue) ≡ false = rw (e, left-first (textValues s) n next-left) at t in
-        rw (passed-bad (r .passed) mostElements (left-some (textValues s) n next-left) (omega (arith, r .few)) g)
+        let g : withinLimits s (getD (lineValues s) n zeroValue) ≡ false = rw (e, left-first (lineValues s) n next-left) at t in
+        rw (passed-bad (r .passed) mostElements (left-some (lineValues s) n next-left) (omega (arith, r .few)) g)
 
     pub reading-more : {v : Value} {end : ℕ} → v ≡ next → end ≡ at + length (firstLine (drop at s)) → (n ≡ mostElements → ⊥) → withinLimits s v ≡ true → Reading s (set es n (elementOf v)) (n + 1) (end + 1)
     reading-more {v} {end} e q m t =
-        let g : v ≡ getD (textValues s) n zeroValue = e ∙ left-first (textValues s) n next-left in
-        let i : n < length (textValues s) = left-some (textValues s) n next-left in
+        let g : v ≡ getD (lineValues s) n zeroValue = e ∙ left-first (lineValues s) n next-left in
+        let i : n < length (lineValues s) = left-some (lineValues s) n next-left in
         let f : at + (length (firstLine (drop at s)) + 1) ≡ end + 1 = omega arith in
         let a : afterLine (drop at s) ≡ drop (end + 1) s =
         sym (after-is (drop at s)) ∙ drop-drop (length (firstLine (drop at s)) + 1) at s ∙ ap (λ (k : ℕ). drop k s) f in
@@ -127,30 +127,30 @@ module _ {s : List ℕ} {es : List Element} {n at : ℕ} (r : Reading s es n at)
           bound = omega arith;
           passed = passed-more (r .passed) i (rw g at t);
           placed = placing-more (r .placed) i (omega (arith, r .few)) g;
-          left = left-rest (textValues s) n next-left ∙ rw (a, q);
+          left = left-rest (lineValues s) n next-left ∙ rw (a, q);
         }
 
   module _ (h : length s ≤ at) where
-    all-read : n ≡ length (textValues s)
+    all-read : n ≡ length (lineValues s)
     unfolding elementsFrom lines
-    all-read = omega (arith, r .bound, left-none (textValues s) n (r .left ∙ rw (drop-of-length-le s h)))
+    all-read = omega (arith, r .bound, left-none (lineValues s) n (r .left ∙ rw (drop-of-length-le s h)))
 
-    pub reading-good : Good ≡ textCheck s
-    unfolding textCheck checkValues
+    pub reading-good : Good ≡ lineCheck s
+    unfolding lineCheck checkValues
     reading-good =
-        let t : take mostElements (textValues s) ≡ take n (textValues s) = take-all mostElements (textValues s) (omega (arith, r .few, all-read)) ∙ sym (take-all n (textValues s) (omega (arith, all-read))) in
-        rw (t, passed-good (r .passed), le-ltb mostElements (length (textValues s)) (omega (arith, r .few, all-read)))
+        let t : take mostElements (lineValues s) ≡ take n (lineValues s) = take-all mostElements (lineValues s) (omega (arith, r .few, all-read)) ∙ sym (take-all n (lineValues s) (omega (arith, all-read))) in
+        rw (t, passed-good (r .passed), le-ltb mostElements (length (lineValues s)) (omega (arith, r .few, all-read)))
 
-    pub reading-list : _≡_ {A = carried.List} (record { elements = es; count = n }) (listOf (textValues s))
+    pub reading-list : _≡_ {A = carried.List} (record { elements = es; count = n }) (listOf (lineValues s))
     reading-list = placing-list (r .placed) all-read
 
 -- ---- the answer
 
 abbrev Answered : List ℕ → ListCheck → carried.List → Type 0
-Answered s k l = (k ≡ textCheck s) × ((l ≡ textList s) × ((checkNumber k ≡ checkNumber (textCheck s)) × (checkPlace k ≡ checkPlace (textCheck s))))
+Answered s k l = (k ≡ lineCheck s) × ((l ≡ lineList s) × ((checkNumber k ≡ checkNumber (lineCheck s)) × (checkPlace k ≡ checkPlace (lineCheck s))))
 
-pub answered-bad : (s : List ℕ) {k : ListCheck} {l : carried.List} {p : ℕ} → (k ≡ Bad p) × (l ≡ emptyList) → Bad p ≡ textCheck s → Answered s k l
+pub answered-bad : (s : List ℕ) {k : ListCheck} {l : carried.List} {p : ℕ} → (k ≡ Bad p) × (l ≡ emptyList) → Bad p ≡ lineCheck s → Answered s k l
 answered-bad s w e = rw (w .0, w .1, ← e) (refl, (refl, (refl, refl)))
 
-pub answered-good : (s : List ℕ) {l : carried.List} → Good ≡ textCheck s → l ≡ listOf (textValues s) → Answered s Good l
+pub answered-good : (s : List ℕ) {l : carried.List} → Good ≡ lineCheck s → l ≡ listOf (lineValues s) → Answered s Good l
 answered-good s e f = rw (← e) (refl, (f, (refl, refl)))

@@ -19,17 +19,17 @@ elementsFrom at [] = []
 elementsFrom at (l ∷ ls) = elementOn at l ∷ elementsFrom (at + length l + 1) ls
 
 -- the elements of a list text, texts as places in the list text itself
-unfoldable pub textValues : List ℕ → List Value
-textValues s = elementsFrom 0 (lines s)
+unfoldable pub lineValues : List ℕ → List Value
+lineValues s = elementsFrom 0 (lines s)
 
 -- row 6, the list text being the text area
-unfoldable pub textCheck : List ℕ → ListCheck
-textCheck s = checkValues (withinLimits s) mostElements (textValues s) (length (textValues s))
+unfoldable pub lineCheck : List ℕ → ListCheck
+lineCheck s = checkValues (withinLimits s) mostElements (lineValues s) (length (lineValues s))
 
--- the list; none where row 6 refuses
+-- the list; empty where row 6 refuses: 'no values'
 abbrev pub listGiven : ListCheck → List Value → carried.List
 listGiven Good vs = listOf vs
 listGiven (Bad p) vs = emptyList
 
-abbrev pub textList : List ℕ → carried.List
-textList s = listGiven (textCheck s) (textValues s)
+abbrev pub lineList : List ℕ → carried.List
+lineList s = listGiven (lineCheck s) (lineValues s)

@@ -9,7 +9,7 @@ use list_elements::limits::within_limits;
 ghost use mathlib.Core.Path.{_≡_};
 ghost use Rattle.list_elements.specs.Elements.{emptyList};
 ghost use Rattle.list_elements.specs.Limits.{checkNumber, checkPlace};
-ghost use Rattle.list_text.specs.ListText.{textCheck, textList};
+ghost use Rattle.list_text.specs.ListText.{lineCheck, lineList};
 
 // Refused at this element: no values.
 fn refused(place: usize) -> ListText
@@ -23,10 +23,10 @@ fn refused(place: usize) -> ListText
 
 // The list of a list text, its texts as places in the text itself; or refusal 6. Any bytes.
 pub fn read_list(text: &[u8]) -> ListText
-    ensures checked { λ r. ⌜ r .check ≡ textCheck (now (text .entry)) ⌝ }
-    ensures list { λ r. ⌜ r .list ≡ textList (now (text .entry)) ⌝ }
-    ensures number { λ r. ⌜ checkNumber (r .check) ≡ checkNumber (textCheck (now (text .entry))) ⌝ }
-    ensures place { λ r. ⌜ checkPlace (r .check) ≡ checkPlace (textCheck (now (text .entry))) ⌝ }
+    ensures checked { λ r. ⌜ r .check ≡ lineCheck (now (text .entry)) ⌝ }
+    ensures list { λ r. ⌜ r .list ≡ lineList (now (text .entry)) ⌝ }
+    ensures number { λ r. ⌜ checkNumber (r .check) ≡ checkNumber (lineCheck (now (text .entry))) ⌝ }
+    ensures place { λ r. ⌜ checkPlace (r .check) ≡ checkPlace (lineCheck (now (text .entry))) ⌝ }
 {
     let mut list = List::empty();
     let mut n: usize = 0;

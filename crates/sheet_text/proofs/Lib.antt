@@ -1,4 +1,4 @@
-pub mod NumeralLaws
+pub mod DecimalDigits
 pub mod LineLaws
 pub mod RecordLaws
 pub mod TextLaws

@@ -10,7 +10,7 @@ use Rattle.buffer.specs.Splice.{splice}
 use Rattle.buffer.proofs.Splicing.{splice-then}
 use Rattle.buffer.proofs.SpliceBytes.{length-splice}
 use Rattle.list_text.specs.Lines.{lineFeed}
-use Rattle.sheet_text.specs.Output.{numeral, countsLine, refusedLine}
+use Rattle.sheet_text.specs.Output.{decimalDigits, countsLine, refusedLine}
 
 -- d₁ is d with xs from the offset `at` on, and `end` is the offset after them
 pub record Put (d : List ℕ) (at : ℕ) (xs d₁ : List ℕ) (end : ℕ) : Type 0 where
@@ -22,11 +22,11 @@ pub put-then : {d : List ℕ} {at : ℕ} {xs d₁ : List ℕ} {end : ℕ} → at
 put-then {d} {at} {xs} {d₁} {end} h p ys {d₂} {next} e q =
     record { is = splice-then d d₁ d₂ at end xs ys (p .is) e (p .after) h; after = omega (arith, p .after, length-append xs ys) }
 
-pub counts-are : (n k : ℕ) → (((bytes "records " ++ numeral n) ++ bytes " starred ") ++ numeral k) ++ (lineFeed ∷ []) ≡ countsLine n k
+pub counts-are : (n k : ℕ) → (((bytes "records " ++ decimalDigits n) ++ bytes " starred ") ++ decimalDigits k) ++ (lineFeed ∷ []) ≡ countsLine n k
 unfolding countsLine
 counts-are n k = simp append-assoc
 
-pub refused-are : (number place : ℕ) → (((bytes "refused " ++ numeral number) ++ (blank ∷ [])) ++ numeral place) ++ (lineFeed ∷ []) ≡ refusedLine number place
+pub refused-are : (number place : ℕ) → (((bytes "refused " ++ decimalDigits number) ++ (blank ∷ [])) ++ decimalDigits place) ++ (lineFeed ∷ []) ≡ refusedLine number place
 unfolding refusedLine
 refused-are number place = simp append-assoc
 

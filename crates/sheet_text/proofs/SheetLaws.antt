@@ -21,13 +21,13 @@ use Rattle.write_passes.specs.Placed.{characters, starredIn}
 use Rattle.sheet_write.specs.Writing.{Writing, accepts, refuses, answerOf, bufferOf}
 use Rattle.sheet_write.proofs.Promises.{placed-right}
 use Rattle.list_text.specs.Lines.{firstLine, afterLine}
-use Rattle.list_text.specs.ListText.{textValues}
+use Rattle.list_text.specs.ListText.{lineValues}
 use Rattle.list_text.proofs.LineLaws.{line-is, after-is}
 use Rattle.list_text.proofs.ElementLaws.{part-rest}
-use Rattle.sheet_text.specs.TextWriting.{textWriting, textAnswer, textBuffer}
+use Rattle.sheet_text.specs.FromListText.{writingFrom, answerFrom, bufferFrom}
 use Rattle.sheet_text.specs.Input.{widthOn, inputWidth, inputFormat, inputList}
 use Rattle.sheet_text.specs.Output.{recordLines, countsLine, refusedLine, outputOf}
-use Rattle.sheet_text.specs.SheetText.{recordBuffer, inputWriting, sheetText}
+use Rattle.sheet_text.specs.SheetOutput.{recordBuffer, inputWriting, sheetOutput}
 use Rattle.sheet_text.proofs.TextLaws.{callOf, text-called, text-reached}
 use Rattle.sheet_text.proofs.LineLaws.{lines-front, lines-long}
 use Rattle.sheet_text.proofs.RecordLaws.{written-front, written-long}
@@ -59,12 +59,12 @@ split s {first} {second} {end} {rest} a b c d =
 
 -- the answer r and the records afterwards are those of the input
 pub record Did (s before : List ℕ) (r : Answer) (after : List ℕ) : Type 0 where
-  pub answers : r ≡ answerOf (textValues (inputList s)) (inputWriting s)
-  pub bytes : after ≡ bufferOf (inputWidth s) (inputList s) (textValues (inputList s)) before (inputWriting s)
-  pub is : after ≡ textBuffer (inputWidth s) (inputFormat s) (inputList s) before
+  pub answers : r ≡ answerOf (lineValues (inputList s)) (inputWriting s)
+  pub bytes : after ≡ bufferOf (inputWidth s) (inputList s) (lineValues (inputList s)) before (inputWriting s)
+  pub is : after ≡ bufferFrom (inputWidth s) (inputFormat s) (inputList s) before
 
 pub did : (s before : List ℕ) {width : ℕ} {line format text : List ℕ} {r : Answer} {after : List ℕ} → length before ≡ recordBuffer → width ≡ widthOn line → line ≡ firstLine s → format ≡ inputFormat s → text ≡ inputList s
-    → r ≡ textAnswer width format text before → after ≡ textBuffer width format text before → Did s before r after
+    → r ≡ answerFrom width format text before → after ≡ bufferFrom width format text before → Did s before r after
 did s before l w e f g a b =
     let x : _ = w ∙ ap widthOn e in
     record { answers = a ∙ rw (x, f, g, l); bytes = b ∙ rw (x, f, g, l); is = b ∙ rw (x, f, g) }
@@ -75,9 +75,9 @@ refused-writing : (vs : List Value) (w : Writing) {why : Refusal} → answer.Ref
 refused-writing vs (accepts t n) e = let z : _≡_ {A = ℕ} 0 1 = cc in absurd (omega arith)
 refused-writing vs (refuses why) e = cc
 
-pub sheet-refused : (s before : List ℕ) {r : Answer} {after : List ℕ} {why : Refusal} → Did s before r after → r ≡ answer.Refused why → sheetText s ≡ refusedLine (refusalNumber why) (refusalPlace why)
-unfolding sheetText
-sheet-refused s before d e = rw (refused-writing (textValues (inputList s)) (inputWriting s) (sym e ∙ d .answers))
+pub sheet-refused : (s before : List ℕ) {r : Answer} {after : List ℕ} {why : Refusal} → Did s before r after → r ≡ answer.Refused why → sheetOutput s ≡ refusedLine (refusalNumber why) (refusalPlace why)
+unfolding sheetOutput
+sheet-refused s before d e = rw (refused-writing (lineValues (inputList s)) (inputWriting s) (sym e ∙ d .answers))
 
 -- ---- an accepted one
 
@@ -98,16 +98,16 @@ accepted-writing vs (refuses why) e = let z : _≡_ {A = ℕ} 0 1 = cc in absurd
 pub record Output (s after : List ℕ) (n k : ℕ) : Type 0 where
   pub room : n * inputWidth s ≤ recordBuffer
   pub few : n ≤ n * inputWidth s
-  pub is : sheetText s ≡ recordLines (inputWidth s) n after ++ countsLine n k
+  pub is : sheetOutput s ≡ recordLines (inputWidth s) n after ++ countsLine n k
 
 module _ (s before after : List ℕ) (l : length before ≡ recordBuffer) (t : Trace) (n k : ℕ) (w : inputWriting s ≡ accepts t n) where
   abbrev R : ℕ
   R = inputWidth s
 
   abbrev vs : List Value
-  vs = textValues (inputList s)
+  vs = lineValues (inputList s)
 
-  here : textWriting R (inputFormat s) (inputList s) (length before) ≡ accepts t n
+  here : writingFrom R (inputFormat s) (inputList s) (length before) ≡ accepts t n
   here = rw l w
 
   all-fit : AllFit R n (characters (inputList s) vs) t
@@ -116,7 +116,7 @@ module _ (s before after : List ℕ) (l : length before ≡ recordBuffer) (t : T
       (a .0, rw (values-list vs) at (a .1))
 
   known : after ≡ written R (characters (inputList s) vs) t n before → k ≡ starredIn vs t → Output s after n k
-  unfolding sheetText
+  unfolding sheetOutput
   known e q =
       let r = text-reached R (inputFormat s) (inputList s) before t n here in
       let f : recordLines R n after ≡ recordLines R n (written R (characters (inputList s) vs) t n []) =
@@ -125,17 +125,17 @@ module _ (s before after : List ℕ) (l : length before ≡ recordBuffer) (t : T
       record { room = omega arith; few = r .1; is = rw (w, q) (ap (λ (x : List ℕ). x ++ countsLine n (starredIn vs t)) (sym f)) }
 
 pub sheet-accepted : (s before : List ℕ) {r : Answer} {after : List ℕ} {n k : ℕ} → length before ≡ recordBuffer → Did s before r after → r ≡ answer.Accepted n k → Output s after n k
-sheet-accepted s before {r} {after} {n} {k} l d e = go (inputWriting s) refl (accepted-writing (textValues (inputList s)) (inputWriting s) (sym e ∙ d .answers))
+sheet-accepted s before {r} {after} {n} {k} l d e = go (inputWriting s) refl (accepted-writing (lineValues (inputList s)) (inputWriting s) (sym e ∙ d .answers))
   where
-    go : (w : Writing) → inputWriting s ≡ w → AcceptedWriting (textValues (inputList s)) n k w → Output s after n k
-    go w q (AcceptedWriting.accepted-as t f) = known s before after l t n k q (d .bytes ∙ ap (bufferOf (inputWidth s) (inputList s) (textValues (inputList s)) before) q) f
+    go : (w : Writing) → inputWriting s ≡ w → AcceptedWriting (lineValues (inputList s)) n k w → Output s after n k
+    go w q (AcceptedWriting.accepted-as t f) = known s before after l t n k q (d .bytes ∙ ap (bufferOf (inputWidth s) (inputList s) (lineValues (inputList s)) before) q) f
 
 -- ---- the output put
 
 pub output-put : (s after : List ℕ) {n k : ℕ} (o : Output s after n k) (d₀ : List ℕ) {R at end : ℕ} {d₁ d₂ : List ℕ} → R ≡ inputWidth s → d₁ ≡ splice d₀ 0 (recordLines R n after) → at ≡ length (recordLines R n after)
-    → d₂ ≡ splice d₁ at (countsLine n k) → end ≡ at + length (countsLine n k) → (end ≡ length (sheetText s)) × (d₂ ≡ splice d₀ 0 (sheetText s))
+    → d₂ ≡ splice d₁ at (countsLine n k) → end ≡ at + length (countsLine n k) → (end ≡ length (sheetOutput s)) × (d₂ ≡ splice d₀ 0 (sheetOutput s))
 output-put s after {n} {k} o d₀ {R} {at} {end} {d₁} {d₂} w a b c e =
-    let is : sheetText s ≡ recordLines R n after ++ countsLine n k = rw w (o .is) in (
+    let is : sheetOutput s ≡ recordLines R n after ++ countsLine n k = rw w (o .is) in (
       omega (arith, ap length is, length-append (recordLines R n after) (countsLine n k)),
       rw is (splice-then d₀ d₁ d₂ 0 at (recordLines R n after) (countsLine n k) a c (omega arith) (omega arith)),
     )

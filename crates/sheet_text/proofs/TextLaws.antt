@@ -32,19 +32,27 @@ use Rattle.sheet_write.specs.Promises.{Call, becomes}
 use Rattle.sheet_write.proofs.Promises.{accepts-exactly, records-reached}
 use Rattle.sheet_walk.specs.Walk.{Trace}
 use Rattle.sheet_walk.specs.Answers.{answerRecords}
-use Rattle.list_text.specs.ListText.{textValues, textCheck, listGiven, textList}
-use Rattle.sheet_text.specs.TextWriting.{textWriting, textAnswer}
+use Rattle.list_text.specs.ListText.{lineValues, lineCheck, listGiven, lineList}
+use Rattle.sheet_text.specs.FromListText.{writingFrom, answerFrom}
 use Rattle.sheet_text.specs.Parts.{badListAnswer}
-use Rattle.sheet_text.specs.Promises.{TextWritingIs}
+use Rattle.sheet_text.specs.Promises.{WritingFromIs}
 
 -- ---- the list of a list text
 
-pub text-list-check : (text : List ℕ) → listCheck text (listOf (textValues text)) ≡ textCheck text
-unfolding listOf textCheck
-text-list-check text = rw (values-list (textValues text))
+pub text-list-check : (text : List ℕ) → listCheck text (listOf (lineValues text)) ≡ lineCheck text
+unfolding listOf lineCheck
+text-list-check text = rw (values-list (lineValues text))
 
-pub text-writing-is : TextWritingIs
-text-writing-is R format text B = rw (text-list-check text, values-list (textValues text))
+becomes-writing : (R : ℕ) (format text : List ℕ) (B : ℕ) → writingFrom R format text B ≡ writing R format (listOf (lineValues text)) text B
+becomes-writing R format text B = rw (text-list-check text, values-list (lineValues text))
+
+pub writing-from-is : WritingFromIs
+writing-from-is =
+    record {
+      becomes = becomes-writing;
+      answers = λ R format text buffer. rw (text-list-check text, values-list (lineValues text));
+      bytes = λ R format text buffer. rw (text-list-check text, values-list (lineValues text));
+    }
 
 -- ---- a list that row 6 refuses
 
@@ -76,10 +84,10 @@ bad-is-refused R format p = go (widthRight R)
 refused-wrote : {R : ℕ} {area : List ℕ} {vs : List Value} {before : List ℕ} {w : Writing} → IsRefused w → (ws : List Value) {r : Answer} → r ≡ answerOf ws w → Wrote R area vs before w r before
 refused-wrote (IsRefused.refused-by why) ws e = record { answers = e; bytes = refl }
 
-pub bad-wrote : (R : ℕ) (format text before : List ℕ) {p : ℕ} {r : Answer} → textCheck text ≡ Bad p → r ≡ badListAnswer R format p
-    → Wrote R text (textValues text) before (textWriting R format text (length before)) r before
+pub bad-wrote : (R : ℕ) (format text before : List ℕ) {p : ℕ} {r : Answer} → lineCheck text ≡ Bad p → r ≡ badListAnswer R format p
+    → Wrote R text (lineValues text) before (writingFrom R format text (length before)) r before
 bad-wrote R format text before {p} {r} e f =
-    subst (λ w. Wrote R text (textValues text) before w r before) (sym (bad-writing R format p (textValues text) (length before)) ∙ ap (λ k. writingOf R format k (textValues text) (length before)) (sym e))
+    subst (λ w. Wrote R text (lineValues text) before w r before) (sym (bad-writing R format p (lineValues text) (length before)) ∙ ap (λ k. writingOf R format k (lineValues text) (length before)) (sym e))
     (refused-wrote (bad-is-refused R format p) [] f)
 
 -- its answer, row by row
@@ -115,36 +123,36 @@ module _ (R : ℕ) (format : List ℕ) (p : ℕ) where
 
 -- ---- a good list
 
-pub good-wrote : (R : ℕ) (format text before : List ℕ) {k : ListCheck} {l : carried.List} {r : Answer} {after : List ℕ} → k ≡ textCheck text → k ≡ Good → l ≡ textList text
+pub good-wrote : (R : ℕ) (format text before : List ℕ) {k : ListCheck} {l : carried.List} {r : Answer} {after : List ℕ} → k ≡ lineCheck text → k ≡ Good → l ≡ lineList text
     → r ≡ writeAnswer R format l text before → after ≡ writeBuffer R format l text before
-    → Wrote R text (textValues text) before (textWriting R format text (length before)) r after
+    → Wrote R text (lineValues text) before (writingFrom R format text (length before)) r after
 good-wrote R format text before {k} {l} {r} {after} e g q a b =
-    let m : l ≡ listOf (textValues text) = q ∙ ap (λ x. listGiven x (textValues text)) (sym e ∙ g) in
-    let v : values l ≡ textValues text = ap values m ∙ values-list (textValues text) in
-    let w : writing R format l text (length before) ≡ textWriting R format text (length before) =
-    ap (λ x. writing R format x text (length before)) m ∙ sym (text-writing-is R format text (length before)) in
+    let m : l ≡ listOf (lineValues text) = q ∙ ap (λ x. listGiven x (lineValues text)) (sym e ∙ g) in
+    let v : values l ≡ lineValues text = ap values m ∙ values-list (lineValues text) in
+    let w : writing R format l text (length before) ≡ writingFrom R format text (length before) =
+    ap (λ x. writing R format x text (length before)) m ∙ sym (becomes-writing R format text (length before)) in
     record { answers = a ∙ rw (w, v); bytes = b ∙ rw (w, v) }
 
 -- ---- an accepted writing
 
 -- the call of writing with the list of the list text
 abbrev pub callOf : ℕ → List ℕ → List ℕ → List ℕ → Call
-callOf R format text buffer = record { R = R; format = format; list = listOf (textValues text); area = text; buffer = buffer }
+callOf R format text buffer = record { R = R; format = format; list = listOf (lineValues text); area = text; buffer = buffer }
 
 module _ (R : ℕ) (format text buffer : List ℕ) where
-  pub text-called : (t : Trace) (n : ℕ) → textWriting R format text (length buffer) ≡ accepts t n → becomes (callOf R format text buffer) ≡ accepts t n
-  text-called t n e = sym (text-writing-is R format text (length buffer)) ∙ e
+  pub text-called : (t : Trace) (n : ℕ) → writingFrom R format text (length buffer) ≡ accepts t n → becomes (callOf R format text buffer) ≡ accepts t n
+  text-called t n e = sym (becomes-writing R format text (length buffer)) ∙ e
 
   -- n records of R bytes fit into the buffer, and n is no more than these bytes
-  pub text-reached : (t : Trace) (n : ℕ) → textWriting R format text (length buffer) ≡ accepts t n → (n * R ≤ length buffer) × (n ≤ n * R)
+  pub text-reached : (t : Trace) (n : ℕ) → writingFrom R format text (length buffer) ≡ accepts t n → (n * R ≤ length buffer) × (n ≤ n * R)
   text-reached t n e =
       let a = accepts-exactly (callOf R format text buffer) t n .0 (text-called t n e) in
       let h : n * 1 ≤ n * R = mul-le-mul-left n (a .walks .width .from) in
       (records-reached (callOf R format text buffer) t n (text-called t n e) .3, omega (arith, mul-one n))
 
-  pub text-records : answerRecords (textAnswer R format text buffer) ≤ length buffer
-  text-records = go (textWriting R format text (length buffer)) refl
+  pub text-records : answerRecords (answerFrom R format text buffer) ≤ length buffer
+  text-records = go (writingFrom R format text (length buffer)) refl
     where
-      go : (w : Writing) → textWriting R format text (length buffer) ≡ w → answerRecords (answerOf (textValues text) w) ≤ length buffer
+      go : (w : Writing) → writingFrom R format text (length buffer) ≡ w → answerRecords (answerOf (lineValues text) w) ≤ length buffer
       go (accepts t n) e = let r = text-reached t n e in omega arith
       go (refuses why) e = omega arith

@@ -7,7 +7,8 @@ use Prim.Native.Nat.{ℕ, _+_, _-_, _<_, _≤_}
 use native.Mathlib.Decide.{decLt}
 use native.Mathlib.Omega.{arith}
 use borrow.Author.Tests.{lt-ltb}
-use lib.ListN.{length}
+use lib.ListN.{length, take, drop, take-append-drop}
+use lib.Seq.{take-all, length-take-le}
 use Rattle.format_grammar.specs.Check.{longestFormat, outcome, refused}
 use Rattle.format_grammar.specs.declared.FormatRefusal.the-variants.{Length}
 use Rattle.list_elements.specs.declared.Value.{Value}
@@ -17,19 +18,19 @@ use Rattle.sheet_walk.specs.Steps.{widthRight}
 use Rattle.sheet_walk.specs.declared.Refusal.the-variants.{RecordWidth, Format}
 use Rattle.sheet_write.specs.Writing.{Writing, accepts, refuses, writingOf}
 use Rattle.list_text.specs.Lines.{firstLine, afterLine}
-use Rattle.list_text.specs.ListText.{textValues, textCheck}
+use Rattle.list_text.specs.ListText.{lineValues, lineCheck}
 use Rattle.list_text.specs.Promises.{longestList}
 use Rattle.list_text.proofs.LineLaws.{line-short}
 use Rattle.list_text.proofs.Longest.{line-over, line-ended, after-long, digits-over, long-refused}
-use Rattle.sheet_text.specs.Input.{widthOn, inputWidth, inputFormat, inputList}
+use Rattle.sheet_text.specs.Input.{longestWidth, widthOn, inputWidth, inputFormat, inputList}
 use Rattle.sheet_text.specs.Output.{outputOf}
-use Rattle.sheet_text.specs.SheetText.{recordBuffer, sheetText}
-use Rattle.sheet_text.specs.Promises.{RestUnread}
+use Rattle.sheet_text.specs.SheetOutput.{recordBuffer, sheetOutput}
+use Rattle.sheet_text.specs.Promises.{longestInput, RestUnread}
 use Rattle.sheet_text.proofs.TextLaws.{IsRefused, bad-writing, bad-is-refused}
 
 -- the output for a width, a format and a list text
 unfoldable out : ℕ → List ℕ → List ℕ → List ℕ
-out R format text = outputOf R text (textValues text) (writingOf R format (textCheck text) (textValues text) recordBuffer)
+out R format text = outputOf R text (lineValues text) (writingOf R format (lineCheck text) (lineValues text) recordBuffer)
 
 -- that of a refused writing depends on nothing else
 same-refusal : {w : Writing} → IsRefused w → (R S : ℕ) (a b : List ℕ) (vs ws : List Value) → outputOf R a vs w ≡ outputOf S b ws w
@@ -41,9 +42,9 @@ wide-out : (R : ℕ) (f g a b : List ℕ) → widthRight R ≡ false → out R f
 unfolding out writingOf
 wide-out R f g a b e = rw e
 
-line-wide : (l : List ℕ) → 3 < length l → widthOn l ≡ 0
+line-wide : (l : List ℕ) → longestWidth < length l → widthOn l ≡ 0
 unfolding widthOn
-line-wide l h = rw (digits-over 3 l h)
+line-wide l h = rw (digits-over longestWidth l h)
 
 -- ---- a format that is too long
 
@@ -57,17 +58,17 @@ format-out R f g a b h k =
     rw (long-outcome f h, long-outcome g k)
     (go (widthRight R))
   where
-    go : (t : Bool) → outputOf R a (textValues a) (cond t (refuses (Format Length)) (refuses RecordWidth)) ≡ outputOf R b (textValues b) (cond t (refuses (Format Length)) (refuses RecordWidth))
+    go : (t : Bool) → outputOf R a (lineValues a) (cond t (refuses (Format Length)) (refuses RecordWidth)) ≡ outputOf R b (lineValues b) (cond t (refuses (Format Length)) (refuses RecordWidth))
     go true = refl
     go false = refl
 
 -- ---- a list text that is too long
 
-list-out : (R : ℕ) (f a b : List ℕ) (p : ℕ) → textCheck a ≡ Bad p → textCheck b ≡ Bad p → out R f a ≡ out R f b
+list-out : (R : ℕ) (f a b : List ℕ) (p : ℕ) → lineCheck a ≡ Bad p → lineCheck b ≡ Bad p → out R f a ≡ out R f b
 unfolding out
 list-out R f a b p e g =
-    rw (e, g, bad-writing R f p (textValues a) recordBuffer, bad-writing R f p (textValues b) recordBuffer)
-    (same-refusal (bad-is-refused R f p) R R a b (textValues a) (textValues b))
+    rw (e, g, bad-writing R f p (lineValues a) recordBuffer, bad-writing R f p (lineValues b) recordBuffer)
+    (same-refusal (bad-is-refused R f p) R R a b (lineValues a) (lineValues b))
 
 -- ---- line by line
 
@@ -86,11 +87,12 @@ rest-format R s more h = go (decLt longestFormat (length (firstLine s)))
         let e = line-ended s more (omega arith) in
         rw (e .0, e .1) (rest-list R (firstLine s) (afterLine s) more (omega (arith, after-long s)))
 
-pub rest-unread : RestUnread
-unfolding sheetText out
-rest-unread s more h = go (decLt 3 (length (firstLine s)))
+-- and whatever follows a long input
+rest-input : (s more : List ℕ) → longestInput < length s → sheetOutput (s ++ more) ≡ sheetOutput s
+unfolding sheetOutput out
+rest-input s more h = go (decLt longestWidth (length (firstLine s)))
   where
-    go : Dec (3 < length (firstLine s)) → out (inputWidth (s ++ more)) (inputFormat (s ++ more)) (inputList (s ++ more)) ≡ out (inputWidth s) (inputFormat s) (inputList s)
+    go : Dec (longestWidth < length (firstLine s)) → out (inputWidth (s ++ more)) (inputFormat (s ++ more)) (inputList (s ++ more)) ≡ out (inputWidth s) (inputFormat s) (inputList s)
     go (yes long) =
         let a = line-wide (firstLine s) long in
         let b = line-wide (firstLine (s ++ more)) (omega (arith, line-over s more)) in
@@ -98,3 +100,12 @@ rest-unread s more h = go (decLt 3 (length (firstLine s)))
     go (no short) =
         let e = line-ended s more (omega arith) in
         rw (e .0, e .1) (rest-format (inputWidth s) (afterLine s) more (omega (arith, after-long s)))
+
+pub rest-unread : RestUnread
+rest-unread s k h = go (decLt k (length s))
+  where
+    go : Dec (k < length s) → sheetOutput (take k s) ≡ sheetOutput s
+    go (yes long) =
+        let l : length (take k s) ≡ k = length-take-le k s (omega arith) in
+        sym (rest-input (take k s) (drop k s) (omega arith)) ∙ ap sheetOutput (take-append-drop k s)
+    go (no short) = ap sheetOutput (take-all k s (omega arith))

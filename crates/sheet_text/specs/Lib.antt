@@ -1,6 +1,6 @@
-pub mod TextWriting
+pub mod FromListText
 pub mod Input
 pub mod Output
-pub mod SheetText
+pub mod SheetOutput
 pub mod Promises
 pub mod Parts

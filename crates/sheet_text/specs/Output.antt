@@ -14,9 +14,9 @@ use Rattle.write_passes.specs.Placed.{characters, starredIn}
 use Rattle.sheet_write.specs.Writing.{Writing, accepts, refuses}
 use Rattle.list_text.specs.Lines.{lineFeed}
 
--- a count, a number or a place, as 'decimal' digits with no leading zero
-unfoldable pub numeral : ℕ → List ℕ
-numeral n = digitsOf (digitCount n) n
+-- a count, a number or a place: its decimal digits, with no leading zero
+unfoldable pub decimalDigits : ℕ → List ℕ
+decimalDigits n = digitsOf (digitCount n) n
 
 -- 'each record and a line feed': the first n records of R bytes
 unfoldable pub recordLines : ℕ → ℕ → List ℕ → List ℕ
@@ -25,13 +25,13 @@ recordLines R (suc n) records = take R records ++ (lineFeed ∷ recordLines R n 
 
 -- '`records` and `starred` with their counts'
 unfoldable pub countsLine : ℕ → ℕ → List ℕ
-countsLine n k = bytes "records " ++ (numeral n ++ (bytes " starred " ++ (numeral k ++ (lineFeed ∷ []))))
+countsLine n k = bytes "records " ++ (decimalDigits n ++ (bytes " starred " ++ (decimalDigits k ++ (lineFeed ∷ []))))
 
 -- 'one line `refused`, number, place'
 unfoldable pub refusedLine : ℕ → ℕ → List ℕ
-refusedLine number place = bytes "refused " ++ (numeral number ++ (blank ∷ (numeral place ++ (lineFeed ∷ []))))
+refusedLine number place = bytes "refused " ++ (decimalDigits number ++ (blank ∷ (decimalDigits place ++ (lineFeed ∷ []))))
 
--- the whole output. (The records are those written into a buffer that holds nothing else.)
+-- the whole output. (Laid over a buffer of no bytes, what is written is the n records alone.)
 abbrev pub outputOf : ℕ → List ℕ → List Value → Writing → List ℕ
 outputOf R text vs (accepts t n) = recordLines R n (written R (characters text vs) t n []) ++ countsLine n (starredIn vs t)
 outputOf R text vs (refuses why) = refusedLine (refusalNumber why) (refusalPlace why)

@@ -1,24 +1,30 @@
 -- What the theorems of proofs/ say of list text written, and of the program's input and output.
 -- Assumes nothing.
 use mathlib.Core.Path.{_≡_}
-use mathlib.Core.List.{List, _++_}
-use Prim.Native.Nat.{ℕ, _≤_}
-use lib.ListN.{length}
+use mathlib.Core.List.{List}
+use Prim.Native.Nat.{ℕ, _+_, _<_}
+use lib.ListN.{take}
+use Rattle.format_grammar.specs.Check.{longestFormat}
 use Rattle.list_elements.specs.Contents.{listOf}
-use Rattle.sheet_write.specs.Writing.{writing}
-use Rattle.list_text.specs.ListText.{textValues}
-use Rattle.sheet_text.specs.TextWriting.{textWriting}
-use Rattle.sheet_text.specs.SheetText.{sheetText}
+use Rattle.sheet_write.specs.Writing.{writing, writeAnswer, writeBuffer}
+use Rattle.list_text.specs.ListText.{lineValues}
+use Rattle.list_text.specs.Promises.{longestList}
+use Rattle.sheet_text.specs.FromListText.{writingFrom, answerFrom, bufferFrom}
+use Rattle.sheet_text.specs.Input.{longestWidth}
+use Rattle.sheet_text.specs.SheetOutput.{sheetOutput}
 
--- writing from a list text is writing its list, the text being the text area; so every promise on writing holds of it
-abbrev pub TextWritingIs : Type 0
-TextWritingIs = (R : ℕ) (format text : List ℕ) (B : ℕ) → textWriting R format text B ≡ writing R format (listOf (textValues text)) text B
+-- writing from a list text is writing the list of its values, the text being the text area: what becomes of it, the answer and
+-- the buffer afterwards. So every promise on writing holds of it.
+pub record WritingFromIs : Type 0 where
+  pub becomes : (R : ℕ) (format text : List ℕ) (B : ℕ) → writingFrom R format text B ≡ writing R format (listOf (lineValues text)) text B
+  pub answers : (R : ℕ) (format text buffer : List ℕ) → answerFrom R format text buffer ≡ writeAnswer R format (listOf (lineValues text)) text buffer
+  pub bytes : (R : ℕ) (format text buffer : List ℕ) → bufferFrom R format text buffer ≡ writeBuffer R format (listOf (lineValues text)) text buffer
 
--- so much of an input is looked at: 3 bytes of a first line, 1,024 of a format and 64 lines of 66, their line feeds, and one
--- byte more
+-- the longest input that can be accepted: a first line of 3 bytes, a format of 1,024, 64 lines of 66, and their line feeds
 abbrev pub longestInput : ℕ
-longestInput = 5318
+longestInput = longestWidth + 1 + (longestFormat + 1) + longestList
 
--- what lies past that bound does not matter: however long an input is, its beginning has the answer that the whole would have
+-- of a longer input only its beginning matters: one byte more than that, or any number more, has the answer that the whole
+-- input has
 abbrev pub RestUnread : Type 0
-RestUnread = (s more : List ℕ) → longestInput ≤ length s → sheetText (s ++ more) ≡ sheetText s
+RestUnread = (s : List ℕ) (k : ℕ) → longestInput < k → sheetOutput (take k s) ≡ sheetOutput s

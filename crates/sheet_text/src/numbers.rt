@@ -8,12 +8,12 @@ ghost use Prim.Native.Nat.{_+_, _≤_};
 ghost use lib.ListN.{length};
 ghost use Rattle.buffer.specs.Splice.{splice};
 ghost use Rattle.number.specs.Limits.{largest};
-ghost use Rattle.sheet_text.specs.Output.{numeral};
+ghost use Rattle.sheet_text.specs.Output.{decimalDigits};
 
 // A number of at most 18 digits.
 fn put_small(dst: &mut [u8], at: usize, n: u64) -> usize
     requires { ⌜ (n ≤ largest) × (at + 18 ≤ length (now dst)) ⌝ }
-    ensures { λ r. ⌜ (now (dst .exit) ≡ splice (now (dst .entry)) at (numeral n)) × (r ≡ at + length (numeral n)) × (r ≤ at + 18) ⌝ }
+    ensures { λ r. ⌜ (now (dst .exit) ≡ splice (now (dst .entry)) at (decimalDigits n)) × (r ≡ at + length (decimalDigits n)) × (r ≤ at + 18) ⌝ }
 {
     let k = digit_count(n);
     put_digits(dst, at, k, power_of_ten(k), n);
@@ -23,7 +23,7 @@ fn put_small(dst: &mut [u8], at: usize, n: u64) -> usize
 // Any number: at most 20 digits, of which the last 18 are put by themselves.
 pub fn put_number(dst: &mut [u8], at: usize, n: u64) -> usize
     requires { ⌜ at + 36 ≤ length (now dst) ⌝ }
-    ensures { λ r. ⌜ (now (dst .exit) ≡ splice (now (dst .entry)) at (numeral n)) × (r ≡ at + length (numeral n)) × (r ≤ at + 36) ⌝ }
+    ensures { λ r. ⌜ (now (dst .exit) ≡ splice (now (dst .entry)) at (decimalDigits n)) × (r ≡ at + length (decimalDigits n)) × (r ≤ at + 36) ⌝ }
 {
     if n <= LARGEST {
         return put_small(dst, at, n);

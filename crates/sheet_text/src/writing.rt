@@ -11,10 +11,10 @@ ghost use mathlib.Core.Path.{_≡_};
 ghost use Prim.Native.Nat.{ℕ};
 ghost use lib.ListN.{length};
 ghost use Rattle.list_elements.specs.declared.ListCheck.the-variants.{Bad};
-ghost use Rattle.list_text.specs.ListText.{textValues};
+ghost use Rattle.list_text.specs.ListText.{lineValues};
 ghost use Rattle.sheet_walk.specs.Answers.{answerNumber, answerPlace, answerRecords, answerStarred};
 ghost use Rattle.sheet_write.specs.Writing.{writingNumber, writingPlace, writingRecords, writingStarred};
-ghost use Rattle.sheet_text.specs.TextWriting.{textWriting, textAnswer, textBuffer};
+ghost use Rattle.sheet_text.specs.FromListText.{writingFrom, answerFrom, bufferFrom};
 ghost use Rattle.sheet_text.specs.Parts.{badListAnswer};
 
 // The answer where row 6 refuses a list: rows 1 to 5 apply before it.
@@ -35,13 +35,13 @@ fn bad_list(width: usize, format: &[u8], place: usize) -> Answer
 
 // Writes the list of a list text under the format into records of this width in the buffer; or refuses, and leaves the buffer
 // as it was. Any width, any bytes.
-pub fn write_text(width: usize, format: &[u8], text: &[u8], buffer: &mut [u8]) -> Answer
-    ensures answers { λ r. ⌜ r ≡ textAnswer width (now (format .entry)) (now (text .entry)) (now (buffer .entry)) ⌝ }
-    ensures bytes { λ r. ⌜ now (buffer .exit) ≡ textBuffer width (now (format .entry)) (now (text .entry)) (now (buffer .entry)) ⌝ }
-    ensures number { λ r. ⌜ answerNumber r ≡ writingNumber (textWriting width (now (format .entry)) (now (text .entry)) (length (now (buffer .entry)))) ⌝ }
-    ensures place { λ r. ⌜ answerPlace r ≡ writingPlace (textWriting width (now (format .entry)) (now (text .entry)) (length (now (buffer .entry)))) ⌝ }
-    ensures records { λ r. ⌜ answerRecords r ≡ writingRecords (textWriting width (now (format .entry)) (now (text .entry)) (length (now (buffer .entry)))) ⌝ }
-    ensures starred { λ r. ⌜ answerStarred r ≡ writingStarred (textValues (now (text .entry))) (textWriting width (now (format .entry)) (now (text .entry)) (length (now (buffer .entry)))) ⌝ }
+pub fn write_list_text(width: usize, format: &[u8], text: &[u8], buffer: &mut [u8]) -> Answer
+    ensures answers { λ r. ⌜ r ≡ answerFrom width (now (format .entry)) (now (text .entry)) (now (buffer .entry)) ⌝ }
+    ensures bytes { λ r. ⌜ now (buffer .exit) ≡ bufferFrom width (now (format .entry)) (now (text .entry)) (now (buffer .entry)) ⌝ }
+    ensures number { λ r. ⌜ answerNumber r ≡ writingNumber (writingFrom width (now (format .entry)) (now (text .entry)) (length (now (buffer .entry)))) ⌝ }
+    ensures place { λ r. ⌜ answerPlace r ≡ writingPlace (writingFrom width (now (format .entry)) (now (text .entry)) (length (now (buffer .entry)))) ⌝ }
+    ensures records { λ r. ⌜ answerRecords r ≡ writingRecords (writingFrom width (now (format .entry)) (now (text .entry)) (length (now (buffer .entry)))) ⌝ }
+    ensures starred { λ r. ⌜ answerStarred r ≡ writingStarred (lineValues (now (text .entry))) (writingFrom width (now (format .entry)) (now (text .entry)) (length (now (buffer .entry)))) ⌝ }
 {
     let list_text = read_list(text);
     let check = list_text.check;

@@ -3,6 +3,8 @@ use crate::answers::put_list_check;
 use crate::lists::put_list;
 use crate::numbers::put;
 use list_text::read::read_list;
+use sheet_text::OUTPUT;
+use sheet_text::RECORD_BUFFER;
 use sheet_text::sheet::sheet;
 
 // Reads a list text; all slots of the list given go into `shapes` and `numbers`, and number, place and the list's count into
@@ -26,8 +28,8 @@ pub extern "C" fn test_list_text(
 #[no_mangle]
 pub extern "C" fn test_sheet(
     input: &[u8],
-    records: &mut [u8; 65536],
-    output: &mut [u8; 131200],
+    records: &mut [u8; RECORD_BUFFER],
+    output: &mut [u8; OUTPUT],
 ) -> usize {
     sheet(input, records, output)
 }

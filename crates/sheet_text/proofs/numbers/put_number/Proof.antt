@@ -7,7 +7,7 @@ use native.Mathlib.Omega.{arith}
 use mathlib.Core.Path.{ap, _∙_}
 use native.Mathlib.Nat.{mod-lt}
 use Rattle.number.proofs.PowerLaws.{ten-pos}
-use Rattle.sheet_text.proofs.NumeralLaws.{high-low, parts-put}
+use Rattle.sheet_text.proofs.DecimalDigits.{high-low, parts-put}
 
 put-small-requires : tie.Need-put-small-requires
 put-small-requires c κs = search needs

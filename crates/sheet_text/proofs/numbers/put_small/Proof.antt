@@ -6,9 +6,9 @@ use Rattle.sheet_text.proofs.numbers.put_small.Tie as tie
 use native.Mathlib.Omega.{arith}
 use mathlib.Core.Path.{ap, _∙_}
 use Rattle.number.proofs.DigitLaws.{digitCount-holds}
-use Rattle.sheet_text.proofs.NumeralLaws.{length-numeral}
-use Rattle.sheet_text.specs.Output.{numeral}
-use Rattle.sheet_text.proofs.NumeralLaws.{small-put}
+use Rattle.sheet_text.proofs.DecimalDigits.{length-decimalDigits}
+use Rattle.sheet_text.specs.Output.{decimalDigits}
+use Rattle.sheet_text.proofs.DecimalDigits.{small-put}
 
 digit-count-requires : tie.Need-digit-count-requires
 digit-count-requires c κs = search needs

@@ -9,27 +9,27 @@ use Prim.Native.Nat.{ℕ, _*_, _≤_}
 use lib.ListN.{length}
 use lib.Seq.{length-take-le}
 use Rattle.sheet_text.specs.Input.{widthOn, inputWidth}
-use Rattle.sheet_text.specs.SheetText.{recordBuffer}
+use Rattle.sheet_text.specs.SheetOutput.{recordBuffer}
 use Rattle.sheet_text.proofs.SheetLaws.{Split, split, Did, did, sheet-refused, sheet-accepted, output-put}
 
 line-end-requires : tie.Need-line-end-requires
 line-end-requires c κs = search needs
 
 -- the input as it was taken apart
-parts : (c : tie.After-write-text) → Split (c .before .before .before .before .before .before .before .before .before .before .before .args .input .now) (c .before .before .before .before .before .before .before .before .before .line-end .result) (c .before .before .before .before .before .before .before .before .next-line .result) (c .before .before .before .before .before .before .before .line-end2 .result) (c .before .before .before .before .before .before .next-line2 .result)
+parts : (c : tie.After-write-list-text) → Split (c .before .before .before .before .before .before .before .before .before .before .before .args .input .now) (c .before .before .before .before .before .before .before .before .before .line-end .result) (c .before .before .before .before .before .before .before .before .next-line .result) (c .before .before .before .before .before .before .before .line-end2 .result) (c .before .before .before .before .before .before .next-line2 .result)
 parts c = split (c .before .before .before .before .before .before .before .before .before .before .before .args .input .now) (c .before .before .before .before .before .before .before .before .before .line-end .ensures .0) (c .before .before .before .before .before .before .before .before .next-line .ensures .0) (c .before .before .before .before .before .before .before .line-end2 .ensures .0) (c .before .before .before .before .before .before .next-line2 .ensures .0)
 
-width-is : (c : tie.After-write-text) → c .before .before .before .before .read-width .result ≡ inputWidth (c .before .before .before .before .before .before .before .before .before .before .before .args .input .now)
+width-is : (c : tie.After-write-list-text) → c .before .before .before .before .read-width .result ≡ inputWidth (c .before .before .before .before .before .before .before .before .before .before .before .args .input .now)
 width-is c = c .before .before .before .before .read-width .ensures ∙ ap widthOn (parts c .width-line)
 
-full : (c : tie.After-write-text) → length (c .before .before .before .before .before .before .before .before .before .before .before .args .records .now) ≡ recordBuffer
+full : (c : tie.After-write-list-text) → length (c .before .before .before .before .before .before .before .before .before .before .before .args .records .now) ≡ recordBuffer
 full c = search needs
 
 -- what writing did
-wrote : (c : tie.After-write-text) → Did (c .before .before .before .before .before .before .before .before .before .before .before .args .input .now) (c .before .before .before .before .before .before .before .before .before .before .before .args .records .now) (c .write-text .result) (c .write-text .last .1 .1 .1 .0)
+wrote : (c : tie.After-write-list-text) → Did (c .before .before .before .before .before .before .before .before .before .before .before .args .input .now) (c .before .before .before .before .before .before .before .before .before .before .before .args .records .now) (c .write-list-text .result) (c .write-list-text .last .1 .1 .1 .0)
 wrote c =
     did (c .before .before .before .before .before .before .before .before .before .before .before .args .input .now) (c .before .before .before .before .before .before .before .before .before .before .before .args .records .now) (full c) (c .before .before .before .before .read-width .ensures) (parts c .width-line) (parts c .format-line) (parts c .list)
-    (c .write-text .ensures .0) (c .write-text .ensures .1 .0)
+    (c .write-list-text .ensures .0) (c .write-list-text .ensures .1 .0)
 
 -- n records fit, each with a line feed
 lines-fit : (c : tie.After-known-told2) → (c .before .count .given .0 .0 * c .before .before .before .before .before .before .before .read-width .result ≤ recordBuffer) × (c .before .count .given .0 .0 ≤ recordBuffer)
@@ -53,26 +53,26 @@ slice-aggregate-read-width c = sym (length-take-le _ _ (c .before .before .befor
 read-width-requires : tie.Need-read-width-requires
 read-width-requires c κs = search needs
 
-sub-write-text : tie.Need-sub-write-text
-sub-write-text c = search needs
+sub-write-list-text : tie.Need-sub-write-list-text
+sub-write-list-text c = search needs
 
-part-write-text-start : tie.Need-part-write-text-start
-part-write-text-start c = search needs
+part-write-list-text-start : tie.Need-part-write-list-text-start
+part-write-list-text-start c = search needs
 
-part-write-text-end : tie.Need-part-write-text-end
-part-write-text-end c = search needs
+part-write-list-text-end : tie.Need-part-write-list-text-end
+part-write-list-text-end c = search needs
 
-sub-write-text-2 : tie.Need-sub-write-text-2
-sub-write-text-2 c = search needs
+sub-write-list-text-2 : tie.Need-sub-write-list-text-2
+sub-write-list-text-2 c = search needs
 
-part-write-text-start-2 : tie.Need-part-write-text-start-2
-part-write-text-start-2 c = search needs
+part-write-list-text-start-2 : tie.Need-part-write-list-text-start-2
+part-write-list-text-start-2 c = search needs
 
-part-write-text-end-2 : tie.Need-part-write-text-end-2
-part-write-text-end-2 c = search needs
+part-write-list-text-end-2 : tie.Need-part-write-list-text-end-2
+part-write-list-text-end-2 c = search needs
 
-write-text-requires : tie.Need-write-text-requires
-write-text-requires c κs = search needs
+write-list-text-requires : tie.Need-write-list-text-requires
+write-list-text-requires c κs = search needs
 
 enum-known-refusal : tie.Need-enum-known-refusal
 enum-known-refusal c = search needs
@@ -92,7 +92,7 @@ enum-known-count c = search needs
 put-records-requires : tie.Need-put-records-requires
 put-records-requires c κs =
     let f = lines-fit (c .before .before .before) in
-    let r : length (c .before .before .before .before .before .before .write-text .last .1 .1 .1 .0) ≡ 65536 = search needs in
+    let r : length (c .before .before .before .before .before .before .write-list-text .last .1 .1 .1 .0) ≡ 65536 = search needs in
     let o : length (c .before .before .before .before .before .before .before .before .before .before .before .before .before .before .before .before .before .args .output .now) ≡ 131200 = search needs in
     (omega (arith, f .0), omega (arith, f .0, f .1))
 
@@ -128,13 +128,13 @@ sheet-spec =
     next-line-requires-2
     slice-aggregate-read-width
     read-width-requires
-    sub-write-text
-    part-write-text-start
-    part-write-text-end
-    sub-write-text-2
-    part-write-text-start-2
-    part-write-text-end-2
-    write-text-requires
+    sub-write-list-text
+    part-write-list-text-start
+    part-write-list-text-end
+    sub-write-list-text-2
+    part-write-list-text-start-2
+    part-write-list-text-end-2
+    write-list-text-requires
     enum-known-refusal
     place-of-requires
     number-of-requires

@@ -3,8 +3,8 @@
 use mathlib.Core.List.{List}
 use Prim.Native.Nat.{ℕ}
 use Rattle.sheet_write.specs.Writing.{Writing}
-use Rattle.list_text.specs.ListText.{textValues}
-use Rattle.sheet_text.specs.TextWriting.{textWriting}
+use Rattle.list_text.specs.ListText.{lineValues}
+use Rattle.sheet_text.specs.FromListText.{writingFrom}
 use Rattle.sheet_text.specs.Input.{inputWidth, inputFormat, inputList}
 use Rattle.sheet_text.specs.Output.{outputOf}
 
@@ -14,8 +14,8 @@ recordBuffer = 65536
 
 -- what becomes of an input
 abbrev pub inputWriting : List ℕ → Writing
-inputWriting s = textWriting (inputWidth s) (inputFormat s) (inputList s) recordBuffer
+inputWriting s = writingFrom (inputWidth s) (inputFormat s) (inputList s) recordBuffer
 
 -- the output
-unfoldable pub sheetText : List ℕ → List ℕ
-sheetText s = outputOf (inputWidth s) (inputList s) (textValues (inputList s)) (inputWriting s)
+unfoldable pub sheetOutput : List ℕ → List ℕ
+sheetOutput s = outputOf (inputWidth s) (inputList s) (lineValues (inputList s)) (inputWriting s)

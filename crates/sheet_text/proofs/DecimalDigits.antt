@@ -15,15 +15,15 @@ use Rattle.number.specs.Limits.{largest}
 use Rattle.number.specs.Digits.{digitsOf, digitCount}
 use Rattle.number.proofs.PowerLaws.{ten-pos, ten-le}
 use Rattle.number.proofs.DigitLaws.{length-digits, digitCount-least, digitCount-holds, digitCount-pos, count-more, count-found, digits-cut}
-use Rattle.sheet_text.specs.Output.{numeral}
+use Rattle.sheet_text.specs.Output.{decimalDigits}
 
-pub length-numeral : (n : ℕ) → length (numeral n) ≡ digitCount n
-unfolding numeral
-length-numeral n = length-digits (digitCount n) n
+pub length-decimalDigits : (n : ℕ) → length (decimalDigits n) ≡ digitCount n
+unfolding decimalDigits
+length-decimalDigits n = length-digits (digitCount n) n
 
 -- the digits as they are put
-pub small-put : (n at : ℕ) (d : List ℕ) {k : ℕ} {d₁ : List ℕ} → k ≡ digitCount n → d₁ ≡ splice d at (digitsOf k n) → k ≤ 18 → (d₁ ≡ splice d at (numeral n)) × (at + k ≡ at + length (numeral n)) × (at + k ≤ at + 18)
-unfolding numeral
+pub small-put : (n at : ℕ) (d : List ℕ) {k : ℕ} {d₁ : List ℕ} → k ≡ digitCount n → d₁ ≡ splice d at (digitsOf k n) → k ≤ 18 → (d₁ ≡ splice d at (decimalDigits n)) × (at + k ≡ at + length (decimalDigits n)) × (at + k ≤ at + 18)
+unfolding decimalDigits
 small-put n at d {k} {d₁} e q h = (q ∙ rw e, rw e (ap (λ (i : ℕ). at + i) (sym (length-digits (digitCount n) n))), omega arith)
 
 -- the first digits of a u64 are few
@@ -66,14 +66,14 @@ module _ (n k : ℕ) (high : 10 ^ k ≤ n) where
       let above : 10 ^ (c - 1 + k) ≤ n = rw (pow-add 10 (c - 1) k) (le-div-iff-mul-le (ten-pos k) .0 (least-of (n / 10 ^ k) some-high)) in
       sym (count-found n (c + k) (omega (arith, digitCount-pos (n / 10 ^ k))) (omega (arith, count-more n (c - 1 + k) above)) below)
 
-  pub numeral-parts : numeral n ≡ numeral (n / 10 ^ k) ++ digitsOf k (n % 10 ^ k)
-  unfolding numeral
-  numeral-parts = rw count-high (digits-add (digitCount (n / 10 ^ k)) k n ∙ ap (λ (l : List ℕ). digitsOf (digitCount (n / 10 ^ k)) (n / 10 ^ k) ++ l) (sym (digits-cut k n)))
+  pub decimalDigits-parts : decimalDigits n ≡ decimalDigits (n / 10 ^ k) ++ digitsOf k (n % 10 ^ k)
+  unfolding decimalDigits
+  decimalDigits-parts = rw count-high (digits-add (digitCount (n / 10 ^ k)) k n ∙ ap (λ (l : List ℕ). digitsOf (digitCount (n / 10 ^ k)) (n / 10 ^ k) ++ l) (sym (digits-cut k n)))
 
 -- the two parts as they are put
-pub parts-put : (n at : ℕ) (d : List ℕ) {p end : ℕ} {d₁ d₂ : List ℕ} → largest < n → p ≡ 10 ^ 18 → at + 36 ≤ length d → d₁ ≡ splice d at (numeral (n / p)) → end ≡ at + length (numeral (n / p)) → end ≤ at + 18
-    → d₂ ≡ splice d₁ end (digitsOf 18 (n % p)) → (d₂ ≡ splice d at (numeral n)) × (end + 18 ≡ at + length (numeral n)) × (end + 18 ≤ at + 36)
+pub parts-put : (n at : ℕ) (d : List ℕ) {p end : ℕ} {d₁ d₂ : List ℕ} → largest < n → p ≡ 10 ^ 18 → at + 36 ≤ length d → d₁ ≡ splice d at (decimalDigits (n / p)) → end ≡ at + length (decimalDigits (n / p)) → end ≤ at + 18
+    → d₂ ≡ splice d₁ end (digitsOf 18 (n % p)) → (d₂ ≡ splice d at (decimalDigits n)) × (end + 18 ≡ at + length (decimalDigits n)) × (end + 18 ≤ at + 36)
 parts-put n at d {p} {end} {d₁} {d₂} h q room e f g k =
-    let parts : numeral n ≡ numeral (n / p) ++ digitsOf 18 (n % p) = rw q (numeral-parts n 18 (omega arith)) in
-    let l : length (numeral n) ≡ length (numeral (n / p)) + 18 = ap length parts ∙ length-append (numeral (n / p)) (digitsOf 18 (n % p)) ∙ rw (length-digits 18 (n % p)) in
-    (rw parts (splice-then d d₁ d₂ at end (numeral (n / p)) (digitsOf 18 (n % p)) e k f (omega arith)), omega arith, omega arith)
+    let parts : decimalDigits n ≡ decimalDigits (n / p) ++ digitsOf 18 (n % p) = rw q (decimalDigits-parts n 18 (omega arith)) in
+    let l : length (decimalDigits n) ≡ length (decimalDigits (n / p)) + 18 = ap length parts ∙ length-append (decimalDigits (n / p)) (digitsOf 18 (n % p)) ∙ rw (length-digits 18 (n % p)) in
+    (rw parts (splice-then d d₁ d₂ at end (decimalDigits (n / p)) (digitsOf 18 (n % p)) e k f (omega arith)), omega arith, omega arith)

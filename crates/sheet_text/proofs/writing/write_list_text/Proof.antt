@@ -1,8 +1,8 @@
--- `sheet_text::writing::write_text` meets its contract.
+-- `sheet_text::writing::write_list_text` meets its contract.
 -- Assumes nothing.
 use borrow.Author.Needs.{needs}
-use Rattle.sheet_text.proofs.writing.write_text.Statement.{statement}
-use Rattle.sheet_text.proofs.writing.write_text.Tie as tie
+use Rattle.sheet_text.proofs.writing.write_list_text.Statement.{statement}
+use Rattle.sheet_text.proofs.writing.write_list_text.Tie as tie
 use mathlib.Core.Path.{sym, _∙_}
 use Rattle.sheet_write.proofs.Whole.{promised}
 use Rattle.sheet_text.proofs.TextLaws.{bad-wrote, good-wrote}
@@ -31,8 +31,8 @@ returns c = promised (good-wrote (c .before .before .before .before .before .bef
 returns-2 : tie.Need-returns-2
 returns-2 c = promised (bad-wrote _ _ _ _ (sym (c .before .before .before .before .read-list .ensures .0) ∙ c .before .before .check .given .1) (c .bad-list .ensures))
 
-pub write-text-spec : {M : Type 1} → statement M
-write-text-spec =
+pub write-list-text-spec : {M : Type 1} → statement M
+write-list-text-spec =
     tie.close
     (tie.spec
     read-list-requires
