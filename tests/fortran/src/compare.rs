@@ -27,17 +27,17 @@ pub struct Expected {
 }
 
 pub fn library_writes(sheet: &Sheet) -> Expected {
-    writes(sheet, &format::text(&sheet.items), sheet.width)
-}
-
-fn writes(sheet: &Sheet, text: &[u8], width: u64) -> Expected {
-    let mut file = vec![FILL; (sheet.records * width) as usize];
+    let mut file = vec![FILL; (sheet.records * sheet.width) as usize];
+    let text = format::text(&sheet.items);
     let count = sheet.elements.len() as u64;
-    let answer = calls::write(width, text, &sheet.elements, count, &sheet.area, &mut file);
+    let answer = calls::write(sheet.width, &text, &sheet.elements, count, &sheet.area, &mut file);
     Expected { answer, file }
 }
 
 pub fn writing(compiler: Compiler, sheet: &Sheet, expected: &Expected, got: &Written) -> Verdict {
+    if expected.answer.is_err() && expected.file.iter().any(|&byte| byte != FILL) {
+        return Verdict::Unexplained("the library has refused and changed the buffer".to_string());
+    }
     match (&sheet.aim, expected.answer) {
         (Aim::Accepted, Ok(counts)) => accepted(compiler, sheet, expected, counts, got),
         (Aim::RecordShort, Err(Refusal { number: 9, .. })) => both_refuse(got, "a record too few"),

@@ -32,7 +32,7 @@ impl Class {
             Class::MinusZero => "minus on a zero left by rounding",
             Class::NoZero => "no zero before the point though a column is free",
             Class::HalfToEven => "halves to even",
-            Class::RoundedTwice => "0.45 to 0.5 of the last place rounded up",
+            Class::RoundedTwice => "a little less than half of the last place rounded up",
             Class::Misplaced => "T after X or T with nothing put between: misplaced",
             Class::Returned => "return to a first group without repeat: what follows it is not met",
             Class::MovePast => "X or T past the record where nothing is put",
@@ -68,9 +68,11 @@ pub fn decimal_written(compiler: Compiler, w: u64, d: u64, units: i64, places: u
     }
 }
 
-/// What rounds to zero: flang rounds to d + 1 places first, and keeps the minus of a zero.
+/// What rounds to zero: flang rounds to d digits first, at least one, so that a little less than a half becomes one,
+/// and keeps the minus of a zero.
 fn by_flang(w: u64, d: u64, units: i64, places: u64) -> Option<(Vec<u8>, Vec<Class>)> {
-    if exact::double_at_places(units, places, d + 1) == 5 {
+    let digits = d.max(1);
+    if exact::double_at_places(units, places, d + digits) == 5 * 10u128.pow(digits as u32 - 1) {
         let last = Value::Decimal { units: units.signum(), places: d };
         return Some((alone(Field::Decimal { w, d }, last, b"", w), vec![Class::RoundedTwice]));
     }

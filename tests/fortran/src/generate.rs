@@ -2,11 +2,14 @@
 
 use crate::calls::Value;
 use crate::compiler::Compiler;
-use crate::format::{Field, Item};
+use crate::format::{self, Field, Item};
 use crate::models::{self, File};
 use crate::random::Random;
 use crate::values::{self, Choice};
 use crate::walk::{self, Layout, Met};
+
+/// The longest format, in bytes; libf2c takes some 300 items.
+const LONGEST: usize = 512;
 
 /// What a sheet is made for.
 #[derive(Clone, Debug)]
@@ -60,7 +63,7 @@ fn length(value: Value) -> u64 {
     }
 }
 
-/// A sheet for writing: nine of ten to be accepted, nine of ten plain.
+/// A sheet for writing: most to be accepted, nine of ten plain.
 pub fn sheet(rng: &mut Random, compiler: Compiler) -> Sheet {
     let plain = !rng.one_in(10);
     let base = accepted(rng, Choice { compiler, plain, reading: false });
@@ -69,8 +72,8 @@ pub fn sheet(rng: &mut Random, compiler: Compiler) -> Sheet {
     }
     match rng.range(0, 29) {
         0 if compiler != Compiler::F2c => record_short(base.clone()).unwrap_or(base),
-        1 => move_past(rng, base.clone()).unwrap_or(base),
-        2 => field_past(base.clone(), compiler).unwrap_or(base),
+        1..=4 => move_past(rng, base.clone()).unwrap_or(base),
+        5 => field_past(base.clone(), compiler).unwrap_or(base),
         _ => base,
     }
 }
@@ -78,8 +81,9 @@ pub fn sheet(rng: &mut Random, compiler: Compiler) -> Sheet {
 /// A sheet that the library is to accept.
 pub fn accepted(rng: &mut Random, choice: Choice) -> Sheet {
     loop {
-        let items = format(rng, choice);
-        if walk::size(&items) > 400 {
+        let items = random_format(rng, choice);
+        let text = format::text_in(&items, choice.compiler.dialect(false));
+        if walk::size(&items) > 400 || text.len() > LONGEST {
             continue;
         }
         let count = if rng.one_in(12) { rng.range(0, 64) } else { rng.range(0, 16) } as usize;
@@ -117,7 +121,7 @@ fn known_in_walk(choice: Choice, items: &[Item], steps: &[Met]) -> bool {
 }
 
 /// A format; one that is not plain often has what the compiler is known to take otherwise.
-fn format(rng: &mut Random, choice: Choice) -> Vec<Item> {
+fn random_format(rng: &mut Random, choice: Choice) -> Vec<Item> {
     let most = *rng.pick(&[3, 4, 6, 9, 12]);
     let mut items = items(rng, 0, most);
     if choice.plain || rng.one_in(2) {
@@ -130,9 +134,9 @@ fn format(rng: &mut Random, choice: Choice) -> Vec<Item> {
             items.splice(at..at, [first, Item::Tab(small(rng, 20))]);
         }
         Compiler::Flang => {
-            items.retain(|item| rng.one_in(2) || matches!(item, Item::Field { .. }));
-            items.push(Item::Field { repeat: None, field: field(rng) });
-            items = vec![Item::Group { repeat: None, items }, literal(rng)];
+            let mut inner = self::items(rng, 1, 4);
+            inner.push(Item::Field { repeat: None, field: field(rng) });
+            items = vec![Item::Group { repeat: None, items: inner }, literal(rng)];
         }
         Compiler::F2c => {}
     }
@@ -177,15 +181,19 @@ fn move_past(rng: &mut Random, mut sheet: Sheet) -> Option<Sheet> {
     (met_once && far <= 255).then_some(sheet)
 }
 
-/// Not with a T under libf2c, which loses count of the columns past the record.
 fn field_past(mut sheet: Sheet, compiler: Compiler) -> Option<Sheet> {
-    if compiler == Compiler::F2c && sheet.steps().iter().any(|step| matches!(step, Met::Tab(_))) {
+    if loses_count(&sheet, compiler) {
         return None;
     }
     let covered = sheet.layout().places.iter().map(|place| place.column + place.width).max()?;
     sheet.width = covered - 1;
     sheet.aim = Aim::FieldPast;
     (sheet.width > 0).then_some(sheet)
+}
+
+/// libf2c loses count of the columns where a T follows what has passed the record.
+pub fn loses_count(sheet: &Sheet, compiler: Compiler) -> bool {
+    compiler == Compiler::F2c && sheet.steps().iter().any(|step| matches!(step, Met::Tab(_)))
 }
 
 fn items(rng: &mut Random, level: u64, most: u64) -> Vec<Item> {

@@ -69,7 +69,7 @@ fn attempt(rng: &mut Random, compiler: Compiler, plain: bool) -> Reading {
     let mut reading = Reading { sheet, whole, records, width, literals, aim: Aim::Fields };
     match rng.range(0, 39) {
         0 if plain && compiler != Compiler::F2c => cut_record(&mut reading),
-        1 if plain => cut_column(&mut reading),
+        1 if plain && !generate::loses_count(&reading.sheet, compiler) => cut_column(&mut reading),
         _ => {}
     }
     reading
@@ -193,7 +193,7 @@ fn odd(rng: &mut Random, field: Field, bytes: &mut [u8]) {
             1 => format!("{},{}", rng.range(0, 99), rng.range(0, 9)),
             _ => format!("{}{}", rng.range(1, 9), "0".repeat(18)),
         },
-        Field::Decimal { .. } => match rng.range(0, 5) {
+        Field::Decimal { .. } => match rng.range(0, 7) {
             0 => rng.pick(&["-", "+", ".", "-.", "+."]).to_string(),
             1 => format!("{}E{}", rng.range(0, 99), rng.range(0, 9)),
             2 => format!("{}.5{}{}", rng.range(0, 99), rng.pick(&["+", "-", "D-", "E+0", "d"]), rng.range(1, 9)),

@@ -63,9 +63,10 @@ fn signed(rng: &mut Random, n: i64) -> i64 {
 
 fn decimal(rng: &mut Random, w: u64, d: u64, choice: Choice) -> Value {
     for _ in 0..200 {
-        let (units, places) = match rng.range(0, 3) {
-            0 => half(rng, w, d),
-            1 => dyadic(rng, w, d),
+        let (units, places) = match rng.range(0, 7) {
+            0 | 1 => half(rng, w, d),
+            2 => near_half(rng, w, d),
+            3 | 4 => dyadic(rng, w, d),
             _ => digits(rng, w, d),
         };
         if units.abs() > LARGEST || exact::at_places(units, places, d).is_none() {
@@ -112,6 +113,19 @@ fn half(rng: &mut Random, w: u64, d: u64) -> (i64, u64) {
     let odd = (below_power(rng, whole) * parts + rng.range(0, parts as u64 - 1) as i64) | 1;
     let units = odd * 5i64.pow(d as u32 + 1);
     (signed(rng, units), d + 1)
+}
+
+/// A little less or more than a half at d places.
+fn near_half(rng: &mut Random, w: u64, d: u64) -> (i64, u64) {
+    if d > 7 {
+        return dyadic(rng, w, d);
+    }
+    let s = rng.range(d + 2, 9);
+    let whole = whole_digits(rng, w, d).min(17 - s);
+    let number = below_power(rng, whole + d) * 10 + 5;
+    let little = rng.range(1, 5) as i64;
+    let units = number * 10i64.pow((s - d - 1) as u32) + if rng.one_in(2) { little } else { -little };
+    (signed(rng, units), s)
 }
 
 /// A whole number of 2^-t, with s places, t at most s.
