@@ -4,7 +4,7 @@ use mathlib.Core.Path.{_≡_, refl, sym, _∙_}
 use mathlib.Core.Bool.{Bool, true, false, cond}
 use mathlib.Core.List.{List, _++_, append-nil}
 use Prim.Native.Nat.{ℕ, _+_, _-_, _/_, _%_, _^_, _<_, _≤_}
-use native.Mathlib.Nat.{div-one, div-le-self, mod-lt}
+use native.Mathlib.Nat.{div-one, div-le-self}
 use native.Mathlib.Omega.{arith}
 use borrow.Author.Tests.{le-leb, lt-leb, ltb-true, ltb-false}
 use lib.Dec.{ltb}
@@ -12,12 +12,12 @@ use lib.ListN.{length, replicate, length-append}
 use Rattle.buffer.specs.Characters.{blank, asterisk}
 use Rattle.number.specs.Limits.{largest}
 use Rattle.number.specs.Digits.{digitsOf, digitCount}
-use Rattle.number.proofs.PowerLaws.{ten-pos}
-use Rattle.number.proofs.DigitLaws.{length-digits, digits-cut, digitCount-least, digitCount-holds, digitCount-pos}
+
+use Rattle.number.proofs.DigitLaws.{length-digits, digits-cut, digitCount-least, digitCount-pos}
 use Rattle.field_written.specs.Numeral.{Numeric, I, F, places, point, signBytes, layout}
 use Rattle.field_written.specs.declared.Sign.{Sign}
 use Rattle.field_written.specs.Written.{mostDigits, fewestDigits, numeralText, fieldText, fewestColumns}
-use Rattle.field_written.proofs.Fewest.{wholePart, most-holds, most-zero, most-some, fewest-most, fewest-holds, fewest-integer, fewest-none, fewest-some}
+use Rattle.field_written.proofs.Fewest.{most-zero, most-some, fewest-most, fewest-integer, fewest-none, fewest-some}
 
 -- the columns beside the digits before the point
 unfoldable pub beside : Numeric → Sign → ℕ
@@ -75,10 +75,8 @@ module _ {s need : ℕ} (sign : Sign) (m : ℕ) (hs : s ≡ length (signBytes si
   digits-need : need ≡ s + digitCount m
   digits-need = hn ∙ sym (integer-need sign m hs refl)
 
-  pub integer-digits : m ≤ largest → (s < need) × (need - s < 19) × (m < 10 ^ (need - s))
-  integer-digits h =
-      let n : need - s ≡ digitCount m = omega (arith, digits-need) in
-      (omega (arith, digits-need, digitCount-pos m), omega (arith, digitCount-least m 18 (omega arith) (omega arith)), rw n (digitCount-holds m))
+  pub integer-digits : s < need
+  integer-digits = omega (arith, digits-need, digitCount-pos m)
 
   pub integer-shows : {w : ℕ} → need ≤ w → fieldText I w sign m ≡ replicate (w - need) blank ++ (signBytes sign ++ digitsOf (need - s) m)
   unfolding beside
@@ -114,8 +112,6 @@ pub record Counted (w : ℕ) (sign : Sign) (d m s p need k : ℕ) : Type 0 where
 pub record Showing (w : ℕ) (sign : Sign) (d m s p k : ℕ) : Type 0 where
   pub fits : s + 1 + d + k ≤ w
   pub few : m ≤ largest → k < 19
-  pub whole : m / p < 10 ^ k
-  pub fraction : m % p < p
   pub is : fieldText (F d) w sign m ≡ replicate (w - (s + 1 + d) - k) blank ++ layout (F d) 0 sign (digitsOf k (m / p)) (digitsOf d (m % p))
 
 module _ {w : ℕ} {sign : Sign} {d m s p need k : ℕ} (n : Counted w sign d m s p need k) where
@@ -137,13 +133,11 @@ module _ {w : ℕ} {sign : Sign} {d m s p need k : ℕ} (n : Counted w sign d m 
   unfolding mostDigits
   most-low h = omega (arith, digitCount-least (m / 10 ^ d) 18 (omega arith) (omega (arith, div-le-self m (10 ^ d))))
 
-  showing : k ≤ mostDigits (F d) m → s + 1 + d + k ≤ w → wholePart (F d) m < 10 ^ k → fieldText (F d) w sign m ≡ shownText (F d) w sign k m → Showing w sign d m s p k
-  showing l r q e =
+  showing : k ≤ mostDigits (F d) m → s + 1 + d + k ≤ w → fieldText (F d) w sign m ≡ shownText (F d) w sign k m → Showing w sign d m s p k
+  showing l r e =
       record {
         fits = r;
         few = λ h. omega (arith, most-low h);
-        whole = rw (n .power) q;
-        fraction = mod-lt m (rw (n .power) (ten-pos d));
         is = e ∙ text-is;
       }
 
@@ -155,17 +149,17 @@ module _ {w : ℕ} {sign : Sign} {d m s p need k : ℕ} (n : Counted w sign d m 
           let h = ltb-true 0 (need - (s + 1 + d)) x in
           let q : k ≡ fewestDigits (F d) m = e ∙ few-is in
           let r : k ≡ mostDigits (F d) m = q ∙ most-some (F d) m (omega (arith, few-is)) in
-          showing (omega arith) (omega (arith, need-is, n .room)) (rw q (fewest-holds (F d) m .0)) (with-most (F d) w sign m r (omega (arith, beside-decimal, need-is, n .room)))
+          showing (omega arith) (omega (arith, need-is, n .room)) (with-most (F d) w sign m r (omega (arith, beside-decimal, need-is, n .room)))
       go false true x y e =
           let h = ltb-false 0 (need - (s + 1 + d)) x in
           let g = ltb-true 0 (w - need) y in
           let z : fewestDigits (F d) m ≡ 0 = omega (arith, few-is) in
           let r : k ≡ mostDigits (F d) m = e ∙ sym (most-zero (F d) m z) in
-          showing (omega arith) (omega (arith, need-is)) (rw r (most-holds (F d) m)) (with-most (F d) w sign m r (omega (arith, beside-decimal, need-is)))
+          showing (omega arith) (omega (arith, need-is)) (with-most (F d) w sign m r (omega (arith, beside-decimal, need-is)))
       go false false x y e =
           let h = ltb-false 0 (need - (s + 1 + d)) x in
           let g = ltb-false 0 (w - need) y in
           let q : k ≡ fewestDigits (F d) m = omega (arith, few-is) in
           let o = most-zero (F d) m (omega (arith, few-is)) in
-          showing (omega arith) (omega (arith, need-is, n .room)) (rw q (fewest-holds (F d) m .0))
+          showing (omega arith) (omega (arith, need-is, n .room))
           (with-fewest (F d) w sign m q (omega (arith, beside-decimal, need-is, n .room)) (omega (arith, beside-decimal, need-is)))

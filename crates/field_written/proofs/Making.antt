@@ -1,56 +1,76 @@
--- The loop that makes digits from the most significant one on.
+-- The loop that makes digits from the units on.
 -- Assumes nothing.
-use mathlib.Core.Path.{_≡_, sym, ap, _∙_}
-use mathlib.Core.List.{List}
+use mathlib.Core.Path.{_≡_, refl, sym, ap, _∙_}
+use mathlib.Core.List.{List, [], _∷_, _++_, append-assoc}
 use Prim.Native.Nat.{ℕ, suc, _+_, _-_, _/_, _%_, _^_, _<_, _≤_}
-use native.Mathlib.Nat.{mod-eq-of-lt, mod-lt, mul-div-cancel, pow-suc, sub-zero}
+use native.Mathlib.Nat.{mod-lt, pow-suc, div-one, div-div-eq-div-mul}
 use native.Mathlib.Omega.{arith}
-use lib.ListN.{length, set}
+use lib.ListN.{length, getD, set, take, drop, length-set, drop-of-length-le}
+use lib.Seq.{take-suc, set-at, length-take-le, drop-cons}
 use Rattle.buffer.specs.Splice.{splice}
-use Rattle.buffer.proofs.Splicing.{Written, written-none, written-more, written-all}
+use Rattle.buffer.proofs.Splicing.{splice-nothing}
 use Rattle.number.specs.Digits.{digitsOf}
-use Rattle.number.proofs.PowerLaws.{ten-pos}
-use Rattle.number.proofs.DigitLaws.{length-digits, getD-digits, top-digit, top-rest}
+use Rattle.number.proofs.DigitLaws.{length-digits, getD-digits}
 
--- i of the k digits of m are laid from offset at on, `rest` is the number that the others make, and p the power of the
--- first of them, 0 after the last
-pub record Made (d₀ : List ℕ) (at k m : ℕ) (d : List ℕ) (p rest i : ℕ) : Type 0 where
-  pub laid : Written d₀ at k (digitsOf k m) d i
-  pub power : p ≡ 10 ^ (k - i) / 10
-  pub left : rest ≡ m % 10 ^ (k - i)
+-- one byte more in front of those laid
+set-before : (d : List ℕ) (p x : ℕ) (ys : List ℕ) → p < length d → set (splice d (suc p) ys) p x ≡ splice d p (x ∷ ys)
+unfolding splice
+set-before d p x ys h =
+    let e : suc p + length ys ≡ p + suc (length ys) = omega arith in
+    let f : take (suc p) d ++ ys ++ drop (suc p + length ys) d ≡ take p d ++ (getD d p 0 ∷ (ys ++ drop (suc p + length ys) d)) =
+    rw (take-suc d p 0 h) (simp append-assoc) in
+    ap (λ (l : List ℕ). set l p x) f
+    ∙ set-at (take p d) (getD d p 0) (ys ++ drop (suc p + length ys) d) x p (length-take-le p d (omega arith))
+    ∙ rw e (simp append-assoc)
 
-pub made-none : {d : List ℕ} {at k m q : ℕ} → at + k ≤ length d → q ≡ 10 ^ k → m < q → Made d at k m d (q / 10) m 0
-made-none {d} {at} {k} {m} {q} h e g =
-    record { laid = written-none (length-digits k m) h; power = rw (sub-zero, e); left = rw sub-zero (sym (mod-eq-of-lt (rw e at g))) }
+-- of the k digits of m those from the i-th on are laid, at their places from offset at on, and `rest` is the number that the
+-- others make
+pub record Made (d₀ : List ℕ) (at k m : ℕ) (d : List ℕ) (rest i : ℕ) : Type 0 where
+  pub room : at + k ≤ length d₀
+  pub bound : i ≤ k
+  pub long : length d ≡ length d₀
+  pub left : rest ≡ m / 10 ^ (k - i)
+  pub laid : d ≡ splice d₀ (at + i) (drop i (digitsOf k m))
 
--- a tenth of a power
-tenth : (j : ℕ) → 10 ^ suc j / 10 ≡ 10 ^ j
-tenth j = rw (pow-suc 10 j) (mul-div-cancel (10 ^ j) (omega arith))
+pub made-none : {d : List ℕ} {at k m : ℕ} → at + k ≤ length d → Made d at k m d m k
+made-none {d} {at} {k} {m} h =
+    let z : k - k ≡ 0 = omega arith in
+    let n : drop k (digitsOf k m) ≡ [] = drop-of-length-le (digitsOf k m) {i = k} (omega (arith, length-digits k m)) in
+    record { room = h; bound = omega arith; long = refl; left = rw z (sym (div-one m)); laid = rw n (sym (splice-nothing d (at + k))) }
 
-module _ {d₀ : List ℕ} {at k m : ℕ} {d : List ℕ} {p rest i : ℕ} (w : Made d₀ at k m d p rest i) (h : i < k) where
-  power-is : p ≡ 10 ^ (k - 1 - i)
-  power-is = w .power ∙ ap (λ (j : ℕ). 10 ^ j / 10) (omega arith) ∙ tenth (k - 1 - i)
+module _ {d₀ : List ℕ} {at k m : ℕ} {d : List ℕ} {rest i : ℕ} (w : Made d₀ at k m d rest i) (h : 0 < i) where
+  -- the next digit, and what it leaves
+  digit : getD (digitsOf k m) (i - 1) 0 ≡ 48 + rest % 10
+  digit =
+      let e : k - 1 - (i - 1) ≡ k - i = omega (arith, w .bound) in
+      getD-digits k m (i - 1) (omega (arith, w .bound)) ∙ rw (e, w .left)
 
-  pub made-pos : 0 < p
-  made-pos = rw power-is (ten-pos (k - 1 - i))
+  next : drop (i - 1) (digitsOf k m) ≡ (48 + rest % 10) ∷ drop i (digitsOf k m)
+  next =
+      let s : suc (i - 1) ≡ i = omega arith in
+      drop-cons (digitsOf k m) (i - 1) 0 (omega (arith, length-digits k m, w .bound)) ∙ rw (digit, s)
 
-  whole : rest ≡ m % 10 ^ suc (k - 1 - i)
-  whole = w .left ∙ ap (λ (j : ℕ). m % 10 ^ j) (omega arith)
+  tenth : rest / 10 ≡ m / 10 ^ (k - (i - 1))
+  tenth =
+      let e : k - (i - 1) ≡ suc (k - i) = omega (arith, w .bound) in
+      rw (e, pow-suc 10 (k - i), w .left) (div-div-eq-div-mul m (10 ^ (k - i)) 10)
 
-  digit : rest / p ≡ m / 10 ^ (k - 1 - i) % 10
-  digit = rw (whole, power-is) (top-digit (k - 1 - i) m)
+  pub made-low : rest % 10 < 10
+  made-low = mod-lt rest (omega arith)
 
-  pub made-low : rest / p < 10
-  made-low = rw digit (mod-lt (m / 10 ^ (k - 1 - i)) (omega arith))
-
-  pub made-more : Made d₀ at k m (set d (at + i) (48 + rest / p)) (p / 10) (rest % p) (i + 1)
+  pub made-more : Made d₀ at k m (set d (at + (i - 1)) (48 + rest % 10)) (rest / 10) (i - 1)
   made-more =
-      let j : k - 1 - i ≡ k - (i + 1) = omega arith in
+      let s : at + i ≡ suc (at + (i - 1)) = omega arith in
       record {
-        laid = written-more (48 + rest / p) (w .laid) h (getD-digits k m i h ∙ rw digit);
-        power = rw (power-is, j);
-        left = rw (whole, power-is) (top-rest (k - 1 - i) m ∙ rw j);
+        room = w .room;
+        bound = omega (arith, w .bound);
+        long = length-set d (at + (i - 1)) (48 + rest % 10) ∙ w .long;
+        left = tenth;
+        laid = rw (w .laid, s, next) (set-before d₀ (at + (i - 1)) (48 + rest % 10) (drop i (digitsOf k m)) (omega (arith, w .room, w .bound)));
       }
 
-pub made-all : {d₀ : List ℕ} {at k m : ℕ} {d : List ℕ} {p rest i : ℕ} → Made d₀ at k m d p rest i → k ≤ i → d ≡ splice d₀ at (digitsOf k m)
-made-all w h = written-all (w .laid) h
+pub made-all : {d₀ : List ℕ} {at k m : ℕ} {d : List ℕ} {rest i : ℕ} → Made d₀ at k m d rest i → i ≤ 0 → d ≡ splice d₀ at (digitsOf k m)
+made-all {d₀} {at} {k} {m} {d} {rest} {i} w h =
+    let z : i ≡ 0 = omega arith in
+    let a : at + i ≡ at = omega arith in
+    w .laid ∙ rw (a, z)

@@ -9,7 +9,7 @@ use crate::parts::put_sign;
 use number::Rounded;
 ghost use mathlib.Core.Path.{_≡_};
 ghost use mathlib.Core.Bool.{cond};
-ghost use Prim.Native.Nat.{_+_, _<_, _≤_, _^_};
+ghost use Prim.Native.Nat.{_+_, _<_, _≤_};
 ghost use lib.Dec.{ltb};
 ghost use lib.ListN.{length};
 ghost use lib.IntN.{natAbs};
@@ -19,7 +19,7 @@ ghost use Rattle.number.specs.Digits.{digitsOf};
 ghost use Rattle.field_written.specs.Numeral.{F, plain, signBytes, layout};
 ghost use Rattle.field_written.specs.Written.{fewestColumns, fieldText, putDecimal, afterDecimal};
 
-// A sign, the k digits of q, a point and the d digits of a fraction; p is 10^d.
+// A sign, the last k digits of q, a point and the last d digits of a fraction.
 fn put_numeral(
     dst: &mut [u8],
     at: usize,
@@ -27,17 +27,16 @@ fn put_numeral(
     k: usize,
     q: u64,
     d: usize,
-    p: u64,
     fraction: u64,
 )
-    requires { ⌜ (at + length (signBytes sign) + k + 1 + d ≤ length (now dst)) × (k < 19) × (q < 10 ^ k) × (p ≡ 10 ^ d) × (fraction < p) ⌝ }
+    requires { ⌜ (at + length (signBytes sign) + k + 1 + d ≤ length (now dst)) × (k < 19) ⌝ }
     ensures { λ r. ⌜ now (dst .exit) ≡ splice (now (dst .entry)) at (layout (F d) 0 sign (digitsOf k q) (digitsOf d fraction)) ⌝ }
 {
     let s = sign_width(sign);
     put_sign(dst, at, sign);
-    put_digits(dst, at + s, k, number::powers::power_of_ten(k), q);
+    put_digits(dst, at + s, k, q);
     buffer::fill(dst, at + s + k, 1, b'.');
-    put_digits(dst, at + s + k + 1, d, p, fraction);
+    put_digits(dst, at + s + k + 1, d, fraction);
 }
 
 // The digits before the point: where there are none, a zero if a column is free.
@@ -63,7 +62,7 @@ fn put_decimal(dst: &mut [u8], at: usize, width: usize, need: usize, sign: Sign,
     let k = shown_digits(need - rest, width - need);
     let blanks = width - rest - k;
     buffer::fill(dst, at, blanks, b' ');
-    put_numeral(dst, at + blanks, sign, k, m / p, d, p, m % p);
+    put_numeral(dst, at + blanks, sign, k, m / p, d, m % p);
 }
 
 // units / 10^places, rounded to d places, under Fw.d from offset at on.

@@ -24,7 +24,7 @@ fn put_integer(dst: &mut [u8], at: usize, width: usize, need: usize, sign: Sign,
     let blanks = width - need;
     buffer::fill(dst, at, blanks, b' ');
     put_sign(dst, at + blanks, sign);
-    put_digits(dst, at + blanks + s, k, number::powers::power_of_ten(k), m);
+    put_digits(dst, at + blanks + s, k, m);
 }
 
 // n under Iw from offset at on; whether the field is starred.

@@ -1,7 +1,7 @@
 // The parts of a numeral, laid into a buffer.
 use crate::Sign;
 ghost use mathlib.Core.Path.{_≡_};
-ghost use Prim.Native.Nat.{_+_, _≤_, _<_, _^_};
+ghost use Prim.Native.Nat.{_+_, _≤_};
 ghost use lib.ListN.{length};
 ghost use Rattle.buffer.specs.Splice.{splice};
 ghost use Rattle.number.specs.Digits.{digitsOf};
@@ -31,18 +31,16 @@ pub fn put_sign(dst: &mut [u8], at: usize, sign: Sign)
     }
 }
 
-// The k digits of m, from the most significant one on; `power` is 10^k.
-pub fn put_digits(dst: &mut [u8], at: usize, k: usize, power: u64, m: u64)
-    requires { ⌜ (at + k ≤ length (now dst)) × (power ≡ 10 ^ k) × (m < power) ⌝ }
+// The last k digits of m, made from the units on, so that each is a division by ten.
+pub fn put_digits(dst: &mut [u8], at: usize, k: usize, m: u64)
+    requires { ⌜ at + k ≤ length (now dst) ⌝ }
     ensures { λ r. ⌜ now (dst .exit) ≡ splice (now (dst .entry)) at (digitsOf k m) ⌝ }
 {
-    let mut p = power / 10;
     let mut rest = m;
-    let mut i: usize = 0;
-    while i < k {
-        dst[at + i] = b'0' + (rest / p) as u8;
-        rest = rest % p;
-        p = p / 10;
-        i += 1;
+    let mut i = k;
+    while 0 < i {
+        i -= 1;
+        dst[at + i] = b'0' + (rest % 10) as u8;
+        rest = rest / 10;
     }
 }

@@ -150,7 +150,7 @@ pub digits-append : (xs ys : List ℕ) → Digits xs → Digits ys → Digits (x
 digits-append [] ys h g = g
 digits-append (x ∷ xs) ys h g = (h .0, h .1, digits-append xs ys (h .2) g)
 
--- ---- the digits made from the most significant one on: the rest is what the digits made so far leave
+-- ---- the first of the last digits, and what it leaves
 
 split : (j m : ℕ) → m % 10 ^ suc j ≡ (m / 10 ^ j % 10) * 10 ^ j + m % 10 ^ j
 split j m = rw (pow-succ' 10 j) (mod-mul m (omega arith) (ten-pos j))

@@ -16,7 +16,7 @@ fn put_small(dst: &mut [u8], at: usize, n: u64) -> usize
     ensures { λ r. ⌜ (now (dst .exit) ≡ splice (now (dst .entry)) at (decimalDigits n)) × (r ≡ at + length (decimalDigits n)) × (r ≤ at + 18) ⌝ }
 {
     let k = digit_count(n);
-    put_digits(dst, at, k, power_of_ten(k), n);
+    put_digits(dst, at, k, n);
     at + k
 }
 
@@ -30,6 +30,6 @@ pub fn put_number(dst: &mut [u8], at: usize, n: u64) -> usize
     }
     let power = power_of_ten(18);
     let next = put_small(dst, at, n / power);
-    put_digits(dst, next, 18, power, n % power);
+    put_digits(dst, next, 18, n % power);
     next + 18
 }

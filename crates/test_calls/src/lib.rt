@@ -4,7 +4,7 @@
 // `numbers`, the integer, the units, or 0 or 1 for a logical. Where a slice is too short, what does not fit is left out.
 mod answers;
 pub mod calls;
-mod lists;
+pub mod lists;
 mod numbers;
 pub mod texts;
-mod values;
+pub mod values;

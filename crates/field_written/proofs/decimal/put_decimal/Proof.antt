@@ -64,8 +64,7 @@ put-numeral-requires : tie.Need-put-numeral-requires
 put-numeral-requires c κs =
     let k = c .before .before .before .before .before in
     let w = counted k in
-    let p = k .before .before in
-    (omega (arith, w .fits), w .few (p .before .before .pre .4), w .whole, p .power-of-ten .ensures .0, w .fraction)
+    (omega (arith, w .fits), w .few (k .before .before .before .before .pre .4))
 
 same-length : tie.Need-same-length
 same-length c = search needs

@@ -16,9 +16,6 @@ put-sign-requires c κs = search needs
 add-put-digits : tie.Need-add-put-digits
 add-put-digits c = search needs
 
-power-of-ten-requires : tie.Need-power-of-ten-requires
-power-of-ten-requires c κs = search needs
-
 put-digits-requires : tie.Need-put-digits-requires
 put-digits-requires c κs = search needs
 
@@ -51,7 +48,7 @@ returns c =
     let d = c .before .before in
     let p = d .before .before .before .before in
     let q = p .before .before .before .before in
-    let s = q .before .before .before .before .before in
+    let s = q .before .before .before .before in
     let a = s .before .before .before in
     splice-then _ _ _ _ _ _ _ (s .put-sign .ensures)
     (splice-then _ _ _ _ _ _ _ (q .put-digits .ensures)
@@ -68,7 +65,6 @@ put-numeral-spec =
     sign-width-requires
     put-sign-requires
     add-put-digits
-    power-of-ten-requires
     put-digits-requires
     add-fill
     add-fill-2

@@ -1,6 +1,6 @@
 -- `field_written::integer::put_integer` meets its contract.
 -- Assumes nothing.
-use Prim.Native.Nat.{_<_, _-_, _^_}
+use Prim.Native.Nat.{_<_}
 use native.Mathlib.Omega.{arith}
 use lib.ListN.{length-replicate}
 use Rattle.buffer.proofs.Splicing.{splice-then}
@@ -9,15 +9,15 @@ use borrow.Author.Needs.{needs}
 use Rattle.field_written.proofs.integer.put_integer.Statement.{statement}
 use Rattle.field_written.proofs.integer.put_integer.Tie as tie
 
--- the digits that the columns leave hold m
-digits : (c : tie.After-sign-width) → (c .sign-width .result < c .before .before .args .need) × (c .before .before .args .need - c .sign-width .result < 19) × (c .before .before .args .m < 10 ^ (c .before .before .args .need - c .sign-width .result))
-digits c = integer-digits _ _ (c .sign-width .ensures .0) (c .before .before .pre .2) (c .before .before .pre .3)
+-- a digit is among the columns
+digits : (c : tie.After-sign-width) → c .sign-width .result < c .before .before .args .need
+digits c = integer-digits _ _ (c .sign-width .ensures .0) (c .before .before .pre .2)
 
 sign-width-requires : tie.Need-sign-width-requires
 sign-width-requires c κs = search needs
 
 sub-k : tie.Need-sub-k
-sub-k c = omega (arith, digits c .0)
+sub-k c = omega (arith, digits c)
 
 sub-blanks : tie.Need-sub-blanks
 sub-blanks c = search needs
@@ -31,7 +31,7 @@ add-put-sign c = search needs
 put-sign-requires : tie.Need-put-sign-requires
 put-sign-requires c κs =
     let s = c .before .before .before .before .before in
-    omega (arith, s .sign-width .ensures, digits s .0)
+    omega (arith, s .sign-width .ensures, digits s)
 
 add-put-digits : tie.Need-add-put-digits
 add-put-digits c = search needs
@@ -39,13 +39,10 @@ add-put-digits c = search needs
 add-put-digits-2 : tie.Need-add-put-digits-2
 add-put-digits-2 c = search needs
 
-power-of-ten-requires : tie.Need-power-of-ten-requires
-power-of-ten-requires c κs = digits (c .before .before .before .before .before .before .before .before .before) .1
-
 put-digits-requires : tie.Need-put-digits-requires
 put-digits-requires c κs =
-    let w = digits (c .before .before .before .before .before .before .before .before .before .before) in
-    (omega (arith, w .0), c .power-of-ten .ensures .0, rw (c .power-of-ten .ensures .0) (w .2))
+    let w = digits (c .before .before .before .before .before .before .before .before .before) in
+    omega arith
 
 same-length : tie.Need-same-length
 same-length c = search needs
@@ -53,7 +50,7 @@ same-length c = search needs
 returns : tie.Need-returns
 returns c =
     let d = c .before .before in
-    let g = d .before .before .before .before .before in
+    let g = d .before .before .before .before in
     let f = g .before .before .before .before in
     let s = f .before .before in
     let a = s .before .before in
@@ -75,7 +72,6 @@ put-integer-spec =
     put-sign-requires
     add-put-digits
     add-put-digits-2
-    power-of-ten-requires
     put-digits-requires
     same-length
     returns)

@@ -4,9 +4,6 @@ use borrow.Author.Needs.{needs}
 use Rattle.sheet_text.proofs.numbers.put_number.Statement.{statement}
 use Rattle.sheet_text.proofs.numbers.put_number.Tie as tie
 use native.Mathlib.Omega.{arith}
-use mathlib.Core.Path.{ap, _∙_}
-use native.Mathlib.Nat.{mod-lt}
-use Rattle.number.proofs.PowerLaws.{ten-pos}
 use Rattle.sheet_text.proofs.DecimalDigits.{high-low, parts-put}
 
 put-small-requires : tie.Need-put-small-requires
@@ -31,7 +28,7 @@ rem-put-digits : tie.Need-rem-put-digits
 rem-put-digits c = search needs
 
 put-digits-requires : tie.Need-put-digits-requires
-put-digits-requires c κs = (omega (arith, c .before .before .before .put-small2 .ensures .2, c .before .before .before .put-small2 .kept .0), c .before .before .before .before .before .power-of-ten .ensures .0, mod-lt _ (c .before .before .before .before .before .power-of-ten .ensures .1))
+put-digits-requires c κs = search needs
 
 add-result : tie.Need-add-result
 add-result c = search needs
