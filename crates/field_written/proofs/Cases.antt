@@ -12,7 +12,6 @@ use lib.ListN.{length, replicate, length-append}
 use Rattle.buffer.specs.Characters.{blank, asterisk}
 use Rattle.number.specs.Limits.{largest}
 use Rattle.number.specs.Digits.{digitsOf, digitCount}
-
 use Rattle.number.proofs.DigitLaws.{length-digits, digits-cut, digitCount-least, digitCount-pos}
 use Rattle.field_written.specs.Numeral.{Numeric, I, F, places, point, signBytes, layout}
 use Rattle.field_written.specs.declared.Sign.{Sign}

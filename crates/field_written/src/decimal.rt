@@ -20,15 +20,7 @@ ghost use Rattle.field_written.specs.Numeral.{F, plain, signBytes, layou
 ghost use Rattle.field_written.specs.Written.{fewestColumns, fieldText, putDecimal, afterDecimal};
 
 // A sign, the last k digits of q, a point and the last d digits of a fraction.
-fn put_numeral(
-    dst: &mut [u8],
-    at: usize,
-    sign: Sign,
-    k: usize,
-    q: u64,
-    d: usize,
-    fraction: u64,
-)
+fn put_numeral(dst: &mut [u8], at: usize, sign: Sign, k: usize, q: u64, d: usize, fraction: u64)
     requires { ⌜ (at + length (signBytes sign) + k + 1 + d ≤ length (now dst)) × (k < 19) ⌝ }
     ensures { λ r. ⌜ now (dst .exit) ≡ splice (now (dst .entry)) at (layout (F d) 0 sign (digitsOf k q) (digitsOf d fraction)) ⌝ }
 {
