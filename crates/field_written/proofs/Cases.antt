@@ -3,16 +3,15 @@
 use mathlib.Core.Path.{_≡_, refl, sym, _∙_}
 use mathlib.Core.Bool.{Bool, true, false, cond}
 use mathlib.Core.List.{List, _++_, append-nil}
-use Prim.Native.Nat.{ℕ, _+_, _-_, _/_, _%_, _^_, _<_, _≤_}
-use native.Mathlib.Nat.{div-one, div-le-self}
+use Prim.Native.Nat.{ℕ, _+_, _-_, _/_, _^_, _<_, _≤_}
+use native.Mathlib.Nat.{div-one}
 use native.Mathlib.Omega.{arith}
 use borrow.Author.Tests.{le-leb, lt-leb, ltb-true, ltb-false}
 use lib.Dec.{ltb}
 use lib.ListN.{length, replicate, length-append}
 use Rattle.buffer.specs.Characters.{blank, asterisk}
-use Rattle.number.specs.Limits.{largest}
 use Rattle.number.specs.Digits.{digitsOf, digitCount}
-use Rattle.number.proofs.DigitLaws.{length-digits, digits-cut, digitCount-least, digitCount-pos}
+use Rattle.number.proofs.DigitLaws.{length-digits, digitCount-pos}
 use Rattle.field_written.specs.Numeral.{Numeric, I, F, places, point, signBytes, layout}
 use Rattle.field_written.specs.declared.Sign.{Sign}
 use Rattle.field_written.specs.Written.{mostDigits, fewestDigits, numeralText, fieldText, fewestColumns}
@@ -99,21 +98,19 @@ pub decimal-rest : {s need : ℕ} (sign : Sign) (d m : ℕ) → s ≡ length (si
 unfolding beside
 decimal-rest sign d m hs hn = omega (arith, columns-are (F d) 0 sign m)
 
--- the code's numbers: the sign's columns s, the power p, the columns needed, and k digits before the point
-pub record Counted (w : ℕ) (sign : Sign) (d m s p need k : ℕ) : Type 0 where
+-- the code's numbers: the sign's columns s, the columns needed, and k digits before the point
+pub record Counted (w : ℕ) (sign : Sign) (d m s need k : ℕ) : Type 0 where
   pub columns : s ≡ length (signBytes sign)
-  pub power : p ≡ 10 ^ d
   pub needed : need ≡ fewestColumns (F d) sign m
   pub room : need ≤ w
   pub shown : k ≡ cond (ltb 0 (need - (s + 1 + d))) (need - (s + 1 + d)) (cond (ltb 0 (w - need)) 1 0)
 
 -- they show the field
-pub record Showing (w : ℕ) (sign : Sign) (d m s p k : ℕ) : Type 0 where
+pub record Showing (w : ℕ) (sign : Sign) (d m s k : ℕ) : Type 0 where
   pub fits : s + 1 + d + k ≤ w
-  pub few : m ≤ largest → k < 19
-  pub is : fieldText (F d) w sign m ≡ replicate (w - (s + 1 + d) - k) blank ++ layout (F d) 0 sign (digitsOf k (m / p)) (digitsOf d (m % p))
+  pub is : fieldText (F d) w sign m ≡ replicate (w - (s + 1 + d) - k) blank ++ layout (F d) 0 sign (digitsOf k (m / 10 ^ d)) (digitsOf d m)
 
-module _ {w : ℕ} {sign : Sign} {d m s p need k : ℕ} (n : Counted w sign d m s p need k) where
+module _ {w : ℕ} {sign : Sign} {d m s need k : ℕ} (n : Counted w sign d m s need k) where
   beside-decimal : beside (F d) sign ≡ s + 1 + d
   unfolding beside
   beside-decimal = omega (arith, n .columns)
@@ -124,41 +121,31 @@ module _ {w : ℕ} {sign : Sign} {d m s p need k : ℕ} (n : Counted w sign d m 
   need-is : need ≡ s + 1 + d + fewestDigits (F d) m
   need-is = omega (arith, n .needed, columns-are (F d) w sign m, beside-decimal)
 
-  text-is : shownText (F d) w sign k m ≡ replicate (w - (s + 1 + d) - k) blank ++ layout (F d) 0 sign (digitsOf k (m / p)) (digitsOf d (m % p))
+  text-is : shownText (F d) w sign k m ≡ replicate (w - (s + 1 + d) - k) blank ++ layout (F d) 0 sign (digitsOf k (m / 10 ^ d)) (digitsOf d m)
   unfolding numeralText
-  text-is = rw (beside-decimal, n .power, digits-cut d m)
+  text-is = rw beside-decimal
 
-  most-low : m ≤ largest → mostDigits (F d) m < 19
-  unfolding mostDigits
-  most-low h = omega (arith, digitCount-least (m / 10 ^ d) 18 (omega arith) (omega (arith, div-le-self m (10 ^ d))))
+  showing : s + 1 + d + k ≤ w → fieldText (F d) w sign m ≡ shownText (F d) w sign k m → Showing w sign d m s k
+  showing r e = record { fits = r; is = e ∙ text-is }
 
-  showing : k ≤ mostDigits (F d) m → s + 1 + d + k ≤ w → fieldText (F d) w sign m ≡ shownText (F d) w sign k m → Showing w sign d m s p k
-  showing l r e =
-      record {
-        fits = r;
-        few = λ h. omega (arith, most-low h);
-        is = e ∙ text-is;
-      }
-
-  pub decimal-shows : Showing w sign d m s p k
+  pub decimal-shows : Showing w sign d m s k
   decimal-shows = go (ltb 0 (need - (s + 1 + d))) (ltb 0 (w - need)) refl refl (n .shown)
     where
-      go : (a b : Bool) → ltb 0 (need - (s + 1 + d)) ≡ a → ltb 0 (w - need) ≡ b → k ≡ cond a (need - (s + 1 + d)) (cond b 1 0) → Showing w sign d m s p k
+      go : (a b : Bool) → ltb 0 (need - (s + 1 + d)) ≡ a → ltb 0 (w - need) ≡ b → k ≡ cond a (need - (s + 1 + d)) (cond b 1 0) → Showing w sign d m s k
       go true b x y e =
           let h = ltb-true 0 (need - (s + 1 + d)) x in
           let q : k ≡ fewestDigits (F d) m = e ∙ few-is in
           let r : k ≡ mostDigits (F d) m = q ∙ most-some (F d) m (omega (arith, few-is)) in
-          showing (omega arith) (omega (arith, need-is, n .room)) (with-most (F d) w sign m r (omega (arith, beside-decimal, need-is, n .room)))
+          showing (omega (arith, need-is, n .room)) (with-most (F d) w sign m r (omega (arith, beside-decimal, need-is, n .room)))
       go false true x y e =
           let h = ltb-false 0 (need - (s + 1 + d)) x in
           let g = ltb-true 0 (w - need) y in
           let z : fewestDigits (F d) m ≡ 0 = omega (arith, few-is) in
           let r : k ≡ mostDigits (F d) m = e ∙ sym (most-zero (F d) m z) in
-          showing (omega arith) (omega (arith, need-is)) (with-most (F d) w sign m r (omega (arith, beside-decimal, need-is)))
+          showing (omega (arith, need-is)) (with-most (F d) w sign m r (omega (arith, beside-decimal, need-is)))
       go false false x y e =
           let h = ltb-false 0 (need - (s + 1 + d)) x in
           let g = ltb-false 0 (w - need) y in
           let q : k ≡ fewestDigits (F d) m = omega (arith, few-is) in
           let o = most-zero (F d) m (omega (arith, few-is)) in
-          showing (omega arith) (omega (arith, need-is, n .room))
-          (with-fewest (F d) w sign m q (omega (arith, beside-decimal, need-is, n .room)) (omega (arith, beside-decimal, need-is)))
+          showing (omega (arith, need-is, n .room)) (with-fewest (F d) w sign m q (omega (arith, beside-decimal, need-is, n .room)) (omega (arith, beside-decimal, need-is)))

@@ -9,7 +9,7 @@ use crate::parts::put_sign;
 use number::Rounded;
 ghost use mathlib.Core.Path.{_≡_};
 ghost use mathlib.Core.Bool.{cond};
-ghost use Prim.Native.Nat.{_+_, _<_, _≤_};
+ghost use Prim.Native.Nat.{_+_, _/_, _≤_, _^_};
 ghost use lib.Dec.{ltb};
 ghost use lib.ListN.{length};
 ghost use lib.IntN.{natAbs};
@@ -19,16 +19,16 @@ ghost use Rattle.number.specs.Digits.{digitsOf};
 ghost use Rattle.field_written.specs.Numeral.{F, plain, signBytes, layout};
 ghost use Rattle.field_written.specs.Written.{fewestColumns, fieldText, putDecimal, afterDecimal};
 
-// A sign, the last k digits of q, a point and the last d digits of a fraction.
-fn put_numeral(dst: &mut [u8], at: usize, sign: Sign, k: usize, q: u64, d: usize, fraction: u64)
-    requires { ⌜ (at + length (signBytes sign) + k + 1 + d ≤ length (now dst)) × (k < 19) ⌝ }
-    ensures { λ r. ⌜ now (dst .exit) ≡ splice (now (dst .entry)) at (layout (F d) 0 sign (digitsOf k q) (digitsOf d fraction)) ⌝ }
+// A sign, k digits, a point and d digits of m, from the last one on.
+fn put_numeral(dst: &mut [u8], at: usize, sign: Sign, k: usize, d: usize, m: u64)
+    requires { ⌜ at + length (signBytes sign) + k + 1 + d ≤ length (now dst) ⌝ }
+    ensures { λ r. ⌜ now (dst .exit) ≡ splice (now (dst .entry)) at (layout (F d) 0 sign (digitsOf k (m / 10 ^ d)) (digitsOf d m)) ⌝ }
 {
     let s = sign_width(sign);
-    put_sign(dst, at, sign);
-    put_digits(dst, at + s, k, q);
+    let whole = put_digits(dst, at + s + k + 1, d, m);
     buffer::fill(dst, at + s + k, 1, b'.');
-    put_digits(dst, at + s + k + 1, d, fraction);
+    put_digits(dst, at + s, k, whole);
+    put_sign(dst, at, sign);
 }
 
 // The digits before the point: where there are none, a zero if a column is free.
@@ -49,12 +49,11 @@ fn put_decimal(dst: &mut [u8], at: usize, width: usize, need: usize, sign: Sign,
     requires { ⌜ (at + width ≤ length (now dst)) × (need ≤ width) × (need ≡ fewestColumns (F d) sign m) × (d ≤ mostPlaces) × (m ≤ largest) ⌝ }
     ensures { λ r. ⌜ now (dst .exit) ≡ splice (now (dst .entry)) at (fieldText (F d) width sign m) ⌝ }
 {
-    let p = number::powers::power_of_ten(d);
     let rest = sign_width(sign) + 1 + d;
     let k = shown_digits(need - rest, width - need);
     let blanks = width - rest - k;
     buffer::fill(dst, at, blanks, b' ');
-    put_numeral(dst, at + blanks, sign, k, m / p, d, m % p);
+    put_numeral(dst, at + blanks, sign, k, d, m);
 }
 
 // units / 10^places, rounded to d places, under Fw.d from offset at on.

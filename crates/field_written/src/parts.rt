@@ -1,7 +1,7 @@
 // The parts of a numeral, laid into a buffer.
 use crate::Sign;
 ghost use mathlib.Core.Path.{_≡_};
-ghost use Prim.Native.Nat.{_+_, _≤_};
+ghost use Prim.Native.Nat.{_+_, _/_, _≤_, _^_};
 ghost use lib.ListN.{length};
 ghost use Rattle.buffer.specs.Splice.{splice};
 ghost use Rattle.number.specs.Digits.{digitsOf};
@@ -31,10 +31,10 @@ pub fn put_sign(dst: &mut [u8], at: usize, sign: Sign)
     }
 }
 
-// The last k digits of m, made from the units on, so that each is a division by ten.
-pub fn put_digits(dst: &mut [u8], at: usize, k: usize, m: u64)
+// The last k digits of m; answers the number that the digits before them make.
+pub fn put_digits(dst: &mut [u8], at: usize, k: usize, m: u64) -> u64
     requires { ⌜ at + k ≤ length (now dst) ⌝ }
-    ensures { λ r. ⌜ now (dst .exit) ≡ splice (now (dst .entry)) at (digitsOf k m) ⌝ }
+    ensures { λ r. ⌜ (now (dst .exit) ≡ splice (now (dst .entry)) at (digitsOf k m)) × (r ≡ m / 10 ^ k) ⌝ }
 {
     let mut rest = m;
     let mut i = k;
@@ -43,4 +43,5 @@ pub fn put_digits(dst: &mut [u8], at: usize, k: usize, m: u64)
         dst[at + i] = b'0' + (rest % 10) as u8;
         rest = rest / 10;
     }
+    rest
 }

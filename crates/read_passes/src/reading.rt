@@ -1,12 +1,14 @@
 // The pass of reading: what the fields give, and how the walk ends. Nothing but the two lists of numbers is stored.
 use crate::Taken;
 use crate::fields::take_field;
+use sheet_walk::Cover;
 use sheet_walk::Ending;
 use sheet_walk::Records;
 use sheet_walk::Refusal;
 use sheet_walk::Turn;
 use sheet_walk::items::has_field;
 use sheet_walk::turns::advance;
+use sheet_walk::turns::cover_at;
 use sheet_walk::turns::first_cursor;
 ghost use mathlib.Core.List.{List};
 ghost use Prim.Native.Nat.{ℕ, _*_, _≤_};
@@ -30,12 +32,9 @@ pub fn read_pass(
     let part = has_field(words, back);
     let mut c = first_cursor();
     loop {
-        let turn = advance(words, back, part, kinds, rs, c);
-        match turn {
-            Turn::Goes(next) => {
-                c = next;
-            }
-            Turn::Covers { at, width, next } => {
+        let cover = cover_at(words, kinds, rs, c);
+        match cover {
+            Cover::Columns { at, width, next } => {
                 let index = c.index;
                 let s = c.state;
                 let place = s.taken;
@@ -53,11 +52,26 @@ pub fn read_pass(
                     }
                 }
             }
-            Turn::Refused(refusal) => {
-                return Ending::Refused(refusal);
-            }
-            Turn::Ends { records: reached } => {
-                return Ending::Accepted { records: reached };
+            Cover::Nothing => {
+                let turn = advance(words, back, part, kinds, rs, c);
+                match turn {
+                    Turn::Goes(next) => {
+                        c = next;
+                    }
+                    Turn::Covers {
+                        at: _,
+                        width: _,
+                        next: _,
+                    } => {
+                        return Ending::Refused(Refusal::NoRecord);
+                    }
+                    Turn::Refused(refusal) => {
+                        return Ending::Refused(refusal);
+                    }
+                    Turn::Ends { records: reached } => {
+                        return Ending::Accepted { records: reached };
+                    }
+                }
             }
         }
     }

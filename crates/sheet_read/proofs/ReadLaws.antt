@@ -34,7 +34,7 @@ use Rattle.sheet_read.specs.Parts.{endingOf, Did}
 not-accepts : {P : Type 0} {why : Refusal} {cs : List Content} {n : ℕ} → refuses why ≡ accepts cs n → P
 not-accepts e = let z : _≡_ {A = ℕ} 0 1 = cc in absurd (omega arith)
 
-did-refused : {m : Reading} {why : Refusal} {kinds records : List ℕ} {ms : List ℤ} {ds : List ℕ} → m ≡ refuses why → Did m kinds records (ending.Refused why) ms ds
+pub did-refused : {m : Reading} {why : Refusal} {kinds records : List ℕ} {ms : List ℤ} {ds : List ℕ} → m ≡ refuses why → Did m kinds records (ending.Refused why) ms ds
 did-refused e = record { ends = rw e; held = λ cs n f. not-accepts (sym e ∙ f) }
 
 concluded-ending : (g : Gathered) → passes.endingOf g ≡ endingOf (concluded g)

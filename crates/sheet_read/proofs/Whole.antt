@@ -1,17 +1,18 @@
 -- The public call, from what its parts do.
 -- Assumes nothing.
 use mathlib.Core.Path.{_≡_, refl, sym, ap, _∙_}
-use mathlib.Core.List.{List, map}
+use mathlib.Core.List.{List, [], map}
 use Prim.Native.Nat.{ℕ, _<_, _≤_}
 use native.Mathlib.Omega.{arith}
 use borrow.Author.Tests.{le-leb, lt-leb}
 use lib.IntN.{ℤ}
 use lib.ListN.{length, take, length-map}
+use Rattle.buffer.specs.Splice.{splice}
 use Rattle.format_grammar.specs.Check as formats
 use Rattle.list_elements.specs.Elements.{Kind, values}
-use Rattle.list_elements.specs.Limits.{mostElements, wantedCheck}
+use Rattle.list_elements.specs.Limits.{mostElements, wantedCheck, textsLength}
 use Rattle.list_elements.specs.Apart.{kindNumber, kindFrom, usableCount}
-use Rattle.list_elements.specs.Contents.{Content, laidTexts, valuesFrom, listOf}
+use Rattle.list_elements.specs.Contents.{Content, textsOf, laidTexts, valuesFrom, listOf}
 use Rattle.list_elements.specs.declared.List as carried
 use Rattle.list_elements.specs.declared.ListCheck.{ListCheck}
 use Rattle.list_elements.specs.declared.ListCheck.the-variants.{Good, Bad}
@@ -23,7 +24,7 @@ use Rattle.sheet_walk.specs.declared.Ending.the-variants as ending
 use Rattle.read_passes.specs.Passes.{Held}
 use Rattle.sheet_walk.specs.Answers.{answerNumber, answerPlace, answerRecords, answerStarred}
 use Rattle.sheet_read.specs.Reading.{Reading, accepts, refuses, checkFormat, readingOf, reading, answerOf, listGiven, areaOf, readAnswer, readList, readArea, readingNumber, readingPlace, readingRecords, readingStarred}
-use Rattle.sheet_read.specs.Parts.{refusedRead, endingOf, Did}
+use Rattle.sheet_read.specs.Parts.{givenCount, endingAnswer, endingOf, Did}
 use Rattle.sheet_read.specs.Promises.{Call, kindsOf, becomes}
 use Rattle.sheet_read.specs.declared.SheetRead.{SheetRead}
 use Rattle.sheet_walk.specs.declared.Answer.the-variants as answer
@@ -36,12 +37,20 @@ pub record Answered (m : Reading) (area : List ℕ) (r : SheetRead) (after : Lis
   pub gives : r .list ≡ listGiven m
   pub bytes : after ≡ areaOf area m
 
-pub answered-refused : {m : Reading} {why : Refusal} {area : List ℕ} {r : SheetRead} → r ≡ refusedRead why → m ≡ refuses why → Answered m area r area
-answered-refused e f = rw (e, f) (record { answers = refl; gives = refl; bytes = refl })
-
-pub answered-accepted : {m : Reading} {cs : List Content} {n : ℕ} {area after : List ℕ} {l : carried.List} → m ≡ accepts cs n → l ≡ listOf (valuesFrom 0 cs) → after ≡ laidTexts area cs
+answered-accepted : {m : Reading} {cs : List Content} {n : ℕ} {area after : List ℕ} {l : carried.List} → m ≡ accepts cs n → l ≡ listOf (valuesFrom 0 cs) → after ≡ laidTexts area cs
     → Answered m area (record { answer = answer.Accepted n 0; list = l }) after
 answered-accepted f e b = rw f (record { answers = refl; gives = e; bytes = b })
+
+-- refused, no text is laid, and the list is empty
+answered-refused : {m : Reading} {why : Refusal} {area after : List ℕ} {l : carried.List} → m ≡ refuses why → l ≡ listOf (valuesFrom 0 []) → after ≡ laidTexts area []
+    → Answered m area (record { answer = answer.Refused why; list = l }) after
+unfolding listOf valuesFrom laidTexts textsOf splice
+answered-refused f e b = rw f (record { answers = refl; gives = e; bytes = b })
+
+-- at most n are given
+pub given-few : (q : Ending) (n : ℕ) → givenCount q n ≤ n
+given-few (ending.Refused why) n = omega arith
+given-few (ending.Accepted k) n = omega arith
 
 -- ---- row 1
 
@@ -54,7 +63,7 @@ module _ (R : ℕ) (format : List ℕ) (check : ListCheck) (kinds : List Kind) (
   unfolding readingOf
   width-over l h = rw (le-leb 1 R l, lt-leb R 255 h)
 
-  width-right : 1 ≤ R → R ≤ 255 → readingOf R format check kinds room records ≡ checkFormat R (formats.outcome format) check kinds room records
+  pub width-right : 1 ≤ R → R ≤ 255 → readingOf R format check kinds room records ≡ checkFormat R (formats.outcome format) check kinds room records
   unfolding readingOf
   width-right l h = rw (le-leb 1 R l, le-leb R 255 h)
 
@@ -67,7 +76,12 @@ same-reading R (formats.accepted xs) Good ks js room records e = rw (e refl)
 same-reading R (formats.accepted xs) (Bad p) ks js room records e = refl
 same-reading R (formats.refused why) check ks js room records e = refl
 
-module _ (c : Call) (low : 1 ≤ c .R) (high : c .R ≤ 255) (check : ListCheck) (is : check ≡ wantedCheck (c .wanted)) (kinds : List ℕ)
+same-call : (R : ℕ) (format : List ℕ) (check : ListCheck) (ks js : List Kind) (room : ℕ) (records : List ℕ) → (check ≡ Good → ks ≡ js)
+    → readingOf R format check ks room records ≡ readingOf R format check js room records
+unfolding readingOf
+same-call R format check ks js room records e = rw (same-reading R (formats.outcome format) check ks js room records e)
+
+module _ (c : Call) (check : ListCheck) (is : check ≡ wantedCheck (c .wanted)) (kinds : List ℕ)
     (taken : check ≡ Good → take (c .wanted .count) kinds ≡ map kindNumber (values (c .wanted))) (n : ℕ) (uses : n ≡ usableCount check (c .wanted .count)) where
   abbrev used : List ℕ
   used = take n kinds
@@ -77,31 +91,30 @@ module _ (c : Call) (low : 1 ≤ c .R) (high : c .R ≤ 255) (check : ListCheck)
       let e : n ≡ c .wanted .count = uses ∙ ap (λ k. usableCount k (c .wanted .count)) g in
       rw (e, taken g) (kinds-of (values (c .wanted)))
 
-  pub becomes-is : becomes c ≡ checkFormat (c .R) (formats.outcome (c .format)) check (map kindFrom used) (length (c .area)) (c .records)
+  becomes-is : becomes c ≡ readingOf (c .R) (c .format) check (map kindFrom used) (length (c .area)) (c .records)
   becomes-is =
-      width-right (c .R) (c .format) (wantedCheck (c .wanted)) (kindsOf c) (length (c .area)) (c .records) low high
-      ∙ ap (λ k. checkFormat (c .R) (formats.outcome (c .format)) k (kindsOf c) (length (c .area)) (c .records)) (sym is)
-      ∙ sym (same-reading (c .R) (formats.outcome (c .format)) check (map kindFrom used) (kindsOf c) (length (c .area)) (c .records) kinds-are)
+      ap (λ k. readingOf (c .R) (c .format) k (kindsOf c) (length (c .area)) (c .records)) (sym is)
+      ∙ sym (same-call (c .R) (c .format) check (map kindFrom used) (kindsOf c) (length (c .area)) (c .records) kinds-are)
 
   module _ {r : Ending} {ms : List ℤ} {ds : List ℕ}
-      (did : Did (checkFormat (c .R) (formats.outcome (c .format)) check (map kindFrom used) (length (c .area)) (c .records)) used (c .records) r ms ds) where
+      (did : Did (readingOf (c .R) (c .format) check (map kindFrom used) (length (c .area)) (c .records)) used (c .records) r ms ds) where
     refused-from : {why : Refusal} (m : Reading) → ending.Refused why ≡ endingOf m → m ≡ refuses why
     refused-from (accepts cs k) e = let z : _≡_ {A = ℕ} 0 1 = cc in absurd (omega arith)
     refused-from {why} (refuses w) e = let z : w ≡ why = cc in ap refuses z
 
-    pub is-refused : {why : Refusal} → r ≡ ending.Refused why → becomes c ≡ refuses why
+    is-refused : {why : Refusal} → r ≡ ending.Refused why → becomes c ≡ refuses why
     is-refused e = becomes-is ∙ refused-from _ (sym e ∙ did .ends)
 
     accepted-from : {k : ℕ} (m : Reading) → ending.Accepted k ≡ endingOf m → (cs : List Content) × (m ≡ accepts cs k)
     accepted-from {k} (accepts cs j) e = let z : j ≡ k = cc in (cs, ap (accepts cs) z)
     accepted-from (refuses w) e = let z : _≡_ {A = ℕ} 0 1 = cc in absurd (omega arith)
 
-    pub record Accepting (k : ℕ) : Type 0 where
+    record Accepting (k : ℕ) : Type 0 where
       pub cs : List Content
       pub becomes-so : becomes c ≡ accepts cs k
       pub held : Held (c .records) used ms ds (length (c .area)) cs
 
-    pub is-accepted : {k : ℕ} → r ≡ ending.Accepted k → n ≤ mostElements → length used ≡ n → n ≤ length ms → n ≤ length ds → Accepting k
+    is-accepted : {k : ℕ} → r ≡ ending.Accepted k → n ≤ mostElements → length used ≡ n → n ≤ length ms → n ≤ length ds → Accepting k
     is-accepted {k} e few long lm ld =
         let a = accepted-from _ (sym e ∙ did .ends) in
         let b = becomes-is ∙ a .1 in
@@ -121,6 +134,32 @@ module _ (c : Call) (low : 1 ≤ c .R) (high : c .R ≤ 255) (check : ListCheck)
                 each = did .held (a .0) k (a .1);
               };
         }
+
+    -- what is given, whatever the ending is
+    pub record Giving (q : Ending) : Type 0 where
+      pub cs : List Content
+      pub held : Held (c .records) (take (givenCount q n) kinds) ms ds (length (c .area)) cs
+      pub answered : {l : carried.List} {after : List ℕ} → l ≡ listOf (valuesFrom 0 cs) → after ≡ laidTexts (c .area) cs → Answered (becomes c) (c .area) (record { answer = endingAnswer q; list = l }) after
+
+    pub giving : (q : Ending) → r ≡ q → n ≤ mostElements → length used ≡ n → n ≤ length ms → n ≤ length ds → Giving q
+    unfolding textsLength
+    giving (ending.Refused why) e few long lm ld =
+        record {
+          cs = [];
+          held =
+              record {
+                many = refl;
+                few = omega arith;
+                amounts-long = omega arith;
+                details-long = omega arith;
+                fits = omega arith;
+                each = λ j h. absurd (omega arith);
+              };
+          answered = answered-refused (is-refused e);
+        }
+    giving (ending.Accepted k) e few long lm ld =
+        let a = is-accepted e few long lm ld in
+        record { cs = a .cs; held = a .held; answered = answered-accepted (a .becomes-so) }
 
 -- ---- the answer's number, place, records and starred
 

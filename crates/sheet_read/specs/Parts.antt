@@ -6,21 +6,24 @@ use Prim.Native.Nat.{ℕ}
 use lib.IntN.{ℤ}
 use Rattle.format_grammar.specs.Check.{outcome}
 use Rattle.format_load.specs.Loaded.{RunHeld}
-use Rattle.list_elements.specs.Elements.{emptyList}
 use Rattle.list_elements.specs.Apart.{kindFrom}
 use Rattle.list_elements.specs.Contents.{Content}
 use Rattle.list_elements.specs.declared.ListCheck.{ListCheck}
-use Rattle.sheet_walk.specs.declared.Refusal.{Refusal}
 use Rattle.sheet_walk.specs.declared.Ending.{Ending}
 use Rattle.sheet_walk.specs.declared.Ending.the-variants as ending
 use Rattle.read_passes.specs.Passes.{HeldSoFar}
-use Rattle.sheet_read.specs.Reading.{Reading, accepts, refuses, checkFormat}
-use Rattle.sheet_read.specs.declared.SheetRead.{SheetRead}
+use Rattle.sheet_read.specs.Reading.{Reading, accepts, refuses, checkFormat, readingOf}
+use Rattle.sheet_walk.specs.declared.Answer.{Answer}
 use Rattle.sheet_walk.specs.declared.Answer.the-variants as answer
 
--- a refusal, as the public call answers it
-abbrev pub refusedRead : Refusal → SheetRead
-refusedRead why = record { answer = answer.Refused why; list = emptyList }
+-- how many of n elements are given after such an ending, and what the public call answers
+abbrev pub givenCount : Ending → ℕ → ℕ
+givenCount (ending.Refused why) n = 0
+givenCount (ending.Accepted k) n = n
+
+abbrev pub endingAnswer : Ending → Answer
+endingAnswer (ending.Refused why) = answer.Refused why
+endingAnswer (ending.Accepted k) = answer.Accepted k 0
 
 -- how a reading ends, as the inner functions answer it
 abbrev pub endingOf : Reading → Ending
@@ -39,3 +42,7 @@ pub record ReadRun (width : ℕ) (t words : List ℕ) (back : ℕ) (check : List
 -- under a format's text
 pub record ReadText (width : ℕ) (text : List ℕ) (check : ListCheck) (kinds : List ℕ) (room : ℕ) (records : List ℕ) (r : Ending) (amounts : List ℤ) (details : List ℕ) : Type 0 where
   pub read : Did (checkFormat width (outcome text) check (map kindFrom kinds) room records) kinds records r amounts details
+
+-- under any width, too
+pub record ReadCall (width : ℕ) (text : List ℕ) (check : ListCheck) (kinds : List ℕ) (room : ℕ) (records : List ℕ) (r : Ending) (amounts : List ℤ) (details : List ℕ) : Type 0 where
+  pub read : Did (readingOf width text check (map kindFrom kinds) room records) kinds records r amounts details

@@ -8,10 +8,11 @@ use read_passes::reading::read_pass;
 use sheet_walk::Ending;
 use sheet_walk::Records;
 use sheet_walk::Refusal;
+use sheet_walk::WIDEST_RECORD;
 ghost use Prim.Native.Nat.{_≤_, _<_, _^_};
 ghost use lib.ListN.{length};
 ghost use Rattle.sheet_walk.specs.Turns.{SomeRun};
-ghost use Rattle.sheet_read.specs.Parts.{ReadRun, ReadText};
+ghost use Rattle.sheet_read.specs.Parts.{ReadRun, ReadText, ReadCall};
 
 // Under a format that was loaded, if the wanted elements are good, their texts have room and there is a record: rows 6, 13 and
 // 9, and the walk.
@@ -120,7 +121,7 @@ fn read_middle(
 }
 
 // With small arrays, or larger ones: under any format, for wanted elements that were checked.
-pub fn read_small(
+fn read_small(
     width: usize,
     format: &[u8],
     check: ListCheck,
@@ -154,4 +155,27 @@ pub fn read_small(
             details,
         ),
     }
+}
+
+// With any width: row 1 as well.
+pub fn read_numbers(
+    width: usize,
+    format: &[u8],
+    check: ListCheck,
+    kinds: &[u64],
+    room: usize,
+    records: &[u8],
+    amounts: &mut [i64],
+    details: &mut [usize],
+) -> Ending
+    requires { ⌜ (length (now kinds) < 2 ^ 32) × (length (now kinds) ≤ length (now amounts)) × (length (now kinds) ≤ length (now details)) ⌝ }
+    ensures { λ r. ⌜ ReadCall width (now (format .entry)) check (now (kinds .entry)) room (now (records .entry)) r (now (amounts .exit)) (now (details .exit)) ⌝ }
+{
+    if width < 1 {
+        return Ending::Refused(Refusal::RecordWidth);
+    }
+    if WIDEST_RECORD < width {
+        return Ending::Refused(Refusal::RecordWidth);
+    }
+    read_small(width, format, check, kinds, room, records, amounts, details)
 }

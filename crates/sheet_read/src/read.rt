@@ -1,27 +1,37 @@
 // The public call.
 use crate::SheetRead;
-use crate::formats::read_small;
+use crate::formats::read_numbers;
 use list_elements::List;
 use list_elements::apart::usable;
 use list_elements::wanted::take_kinds;
 use read_passes::giving::give;
 use sheet_walk::Answer;
 use sheet_walk::Ending;
-use sheet_walk::Refusal;
-use sheet_walk::WIDEST_RECORD;
 ghost use mathlib.Core.Path.{_≡_};
 ghost use lib.ListN.{length};
 ghost use Rattle.sheet_walk.specs.Answers.{answerNumber, answerPlace, answerRecords, answerStarred};
 ghost use Rattle.sheet_read.specs.Reading.{reading, readAnswer, readList, readArea, readingNumber, readingPlace, readingRecords, readingStarred};
-ghost use Rattle.sheet_read.specs.Parts.{refusedRead};
+ghost use Rattle.sheet_read.specs.Parts.{givenCount, endingAnswer};
 
-// A refusal carries no values.
-fn refused(refusal: Refusal) -> SheetRead
-    ensures { λ r. ⌜ r ≡ refusedRead refusal ⌝ }
+// How many of n elements are given: none where reading is refused.
+fn given_count(ending: Ending, n: usize) -> usize
+    ensures { λ r. ⌜ r ≡ givenCount ending n ⌝ }
 {
-    SheetRead {
-        answer: Answer::Refused(refusal),
-        list: List::empty(),
+    match ending {
+        Ending::Refused(_) => 0,
+        Ending::Accepted { records: _ } => n,
+    }
+}
+
+fn answer_of(ending: Ending) -> Answer
+    ensures { λ r. ⌜ r ≡ endingAnswer ending ⌝ }
+{
+    match ending {
+        Ending::Refused(refusal) => Answer::Refused(refusal),
+        Ending::Accepted { records: reached } => Answer::Accepted {
+            records: reached,
+            starred: 0,
+        },
     }
 }
 
@@ -36,19 +46,13 @@ pub fn read(width: usize, format: &[u8], wanted: List, area: &mut [u8], records:
     ensures records { λ r. ⌜ answerRecords (r .answer) ≡ readingRecords (reading width (now (format .entry)) wanted (length (now (area .entry))) (now (records .entry))) ⌝ }
     ensures starred { λ r. ⌜ answerStarred (r .answer) ≡ readingStarred (reading width (now (format .entry)) wanted (length (now (area .entry))) (now (records .entry))) ⌝ }
 {
-    if width < 1 {
-        return refused(Refusal::RecordWidth);
-    }
-    if WIDEST_RECORD < width {
-        return refused(Refusal::RecordWidth);
-    }
     let count = wanted.count;
     let mut kinds = [0u64; 64];
     let mut amounts = [0i64; 64];
     let mut details = [0usize; 64];
     let check = take_kinds(wanted, &mut kinds);
     let n = usable(check, count);
-    let ending = read_small(
+    let ending = read_numbers(
         width,
         format,
         check,
@@ -58,17 +62,9 @@ pub fn read(width: usize, format: &[u8], wanted: List, area: &mut [u8], records:
         &mut amounts,
         &mut details,
     );
-    match ending {
-        Ending::Refused(refusal) => refused(refusal),
-        Ending::Accepted { records: reached } => {
-            let list = give(&kinds[..n], &amounts, &details, records, area);
-            SheetRead {
-                answer: Answer::Accepted {
-                    records: reached,
-                    starred: 0,
-                },
-                list,
-            }
-        }
-    }
+    // The list is made once for both endings: where two were joined, the compiler would move each of its numbers by itself.
+    let m = given_count(ending, n);
+    let list = give(&kinds[..m], &amounts, &details, records, area);
+    let answer = answer_of(ending);
+    SheetRead { answer, list }
 }

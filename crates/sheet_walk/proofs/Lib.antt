@@ -12,6 +12,7 @@ pub mod Promises
 pub mod AnswerLaws
 pub mod ItemLaws
 pub mod TurnLaws
+pub mod CoverLaws
 pub mod Turned
 pub mod Passes
 pub mod Loads

@@ -5,12 +5,12 @@ use mathlib.Core.Bool.{cond}
 use mathlib.Core.Path.{_≡_}
 use mathlib.Core.List.{List, [], map}
 use Prim.Native.Nat.{ℕ, _+_, _*_, _/_, _^_, _<_, _≤_}
-use lib.Dec.{ltb}
+use lib.Dec.{ltb, eqb}
 use lib.ListN.{length, drop, getD}
 use Rattle.format_grammar.specs.Items.{Field}
 use Rattle.format_grammar.specs.Met.{Met}
 use Rattle.format_grammar.specs.Promises.{MetWithin, AllMetWithin}
-use Rattle.format_words.specs.Words.{metOf}
+use Rattle.format_words.specs.Words.{metOf, kindOf, firstOf}
 use Rattle.format_run.specs.Runs.{RunWord, RunWords}
 use Rattle.format_load.specs.Loaded.{RunHeld}
 use Rattle.list_elements.specs.Elements.{Kind}
@@ -27,6 +27,8 @@ use Rattle.sheet_walk.specs.declared.Step.{Step}
 use Rattle.sheet_walk.specs.declared.Step.the-variants as answer
 use Rattle.sheet_walk.specs.declared.Turn.{Turn}
 use Rattle.sheet_walk.specs.declared.Turn.the-variants as turn
+use Rattle.sheet_walk.specs.declared.Cover.{Cover}
+use Rattle.sheet_walk.specs.declared.Cover.the-variants as cover
 
 -- the walk stands in a record, at a column of it or just past its last one, and every number fits into a machine word
 pub record Standing (rs : Records) (s : State) : Type 0 where
@@ -53,6 +55,13 @@ fieldColumns (Field.F w d) k = w
 fieldColumns (Field.L w) k = w
 fieldColumns Field.A k = k / 4
 fieldColumns (Field.Aw w) k = w
+
+-- the same by a field's word
+abbrev pub elementKind : ℕ → ℕ
+elementKind w = cond (ltb (kindOf w) 3) (kindOf w) 3
+
+abbrev pub columnsFor : ℕ → ℕ → ℕ
+columnsFor w k = cond (eqb (kindOf w) 3) (k / 4) (firstOf w)
 
 -- ---- what the item of a word covers columns with
 
@@ -143,3 +152,17 @@ indexAfter h back c = cond (ltb (c .index) (length (h .items))) (c .index + 1) b
 -- the turn
 abbrev pub turnOf : Sheet → ℕ → Cursor → Turn
 turnOf h back c = onwardAnswer (c .state) (indexAfter h back c) (stepAnswer (h .records .width) (stepAt h c))
+
+-- ---- what a turn covers, and a step after which the next item is that of an index
+
+abbrev pub coverOf : Turn → Cover
+coverOf (turn.Goes n) = cover.Nothing
+coverOf (turn.Covers a w n) = cover.Columns a w n
+coverOf (turn.Refused why) = cover.Nothing
+coverOf (turn.Ends n) = cover.Nothing
+
+abbrev pub coverIn : ℕ → Step → Cover
+coverIn i (answer.Moves n) = cover.Nothing
+coverIn i (answer.Covers a w n) = cover.Columns a w (cursor i n)
+coverIn i (answer.Refused why) = cover.Nothing
+coverIn i answer.Ends = cover.Nothing

@@ -69,6 +69,16 @@ pub enum Turn {
     },
 }
 
+// The columns that a turn covers, and the walk after it; or that it covers none.
+pub enum Cover {
+    Columns {
+        at: usize,
+        width: usize,
+        next: Cursor,
+    },
+    Nothing,
+}
+
 // How a walk ends once the values of its fields were checked as well.
 pub enum Ending {
     Accepted { records: usize },

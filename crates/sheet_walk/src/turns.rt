@@ -1,4 +1,5 @@
 // One turn of the walk: an item, or the end of the format.
+use crate::Cover;
 use crate::Cursor;
 use crate::Records;
 use crate::State;
@@ -6,14 +7,21 @@ use crate::Step;
 use crate::Turn;
 use crate::items::end;
 use crate::items::meet;
+use format_words::FIRST_BASE;
+use format_words::KIND_A;
+use format_words::KIND_AW;
+use format_words::KIND_BASE;
+use format_words::KIND_LITERAL;
+use format_words::second_of;
+use list_elements::KIND_TEXT;
 ghost use mathlib.Core.Path.{_≡_};
 ghost use mathlib.Core.List.{List, map};
 ghost use Prim.Native.Nat.{ℕ, _<_, _^_};
 ghost use lib.ListN.{length, drop};
 ghost use Rattle.format_words.specs.Words.{metOf};
 ghost use Rattle.format_run.specs.Runs.{RunWords};
-ghost use Rattle.sheet_walk.specs.Steps.{start, hasField};
-ghost use Rattle.sheet_walk.specs.Turns.{Standing, cursor, sheetOf, onwardAnswer, turnOf};
+ghost use Rattle.sheet_walk.specs.Steps.{start, hasField, What, coverStep};
+ghost use Rattle.sheet_walk.specs.Turns.{Standing, elementKind, columnsFor, cursor, sheetOf, stepAnswer, onwardAnswer, turnOf, coverIn, coverOf};
 
 // The cursor at the start of the walk.
 pub fn first_cursor() -> Cursor
@@ -65,4 +73,74 @@ pub fn advance(
         return onward(meet(words[i], kinds, rs, s), s, i + 1);
     }
     onward(end(rs, s, kinds.len(), part), s, back)
+}
+
+// The kind of the elements that a field's word takes.
+fn element_kind(word: u64) -> u64
+    ensures { λ r. ⌜ r ≡ elementKind word ⌝ }
+{
+    let kind = word % KIND_BASE;
+    if kind < KIND_TEXT {
+        return kind;
+    }
+    KIND_TEXT
+}
+
+// The columns of a field's word, for an element of this kind.
+fn field_columns(word: u64, kind: u64) -> usize
+    ensures { λ r. ⌜ r ≡ columnsFor word kind ⌝ }
+{
+    if word % KIND_BASE == KIND_A {
+        return (kind / list_elements::KIND_BASE) as usize;
+    }
+    (word / KIND_BASE % FIRST_BASE) as usize
+}
+
+// Covers `width` columns from the state's column on, if there are so many; then `taken` elements are taken, and the walk goes on at
+// the item of an index.
+fn columns(rs: Records, s: State, width: usize, taken: usize, index: usize) -> Cover
+    requires { ⌜ Standing rs s ⌝ }
+    ensures { λ r. ⌜ ((what : What) → r ≡ coverIn index (stepAnswer (rs .width) (coverStep rs s what width taken))) ⌝ }
+{
+    if width <= rs.width + 1 - s.column {
+        let state = State {
+            row: s.row,
+            column: s.column + width,
+            taken,
+        };
+        let next = Cursor { index, state };
+        return Cover::Columns {
+            at: s.row * rs.width + (s.column - 1),
+            width,
+            next,
+        };
+    }
+    Cover::Nothing
+}
+
+// What the turn of a cursor covers: most turns do, and this much of `advance` is small enough to stand in the loop of each pass.
+pub fn cover_at(words: &[u64], kinds: &[u64], rs: Records, c: Cursor) -> Cover
+    requires { ⌜ Standing rs (c .state) ⌝ }
+    ensures { λ r. ⌜ ((t : List ℕ) (back : ℕ) → RunWords (length t) (now (words .entry)) → r ≡ coverOf (turnOf (sheetOf t (now (words .entry)) back (now (kinds .entry)) rs) back c)) ⌝ }
+{
+    let i = c.index;
+    let s = c.state;
+    if words.len() <= i {
+        return Cover::Nothing;
+    }
+    let word = words[i];
+    if KIND_AW < word % KIND_BASE {
+        if word % KIND_BASE < KIND_LITERAL {
+            return Cover::Nothing;
+        }
+        return columns(rs, s, second_of(word), s.taken, i + 1);
+    }
+    let place = s.taken;
+    if kinds.len() <= place {
+        return Cover::Nothing;
+    }
+    if kinds[place] % list_elements::KIND_BASE != element_kind(word) {
+        return Cover::Nothing;
+    }
+    columns(rs, s, field_columns(word, kinds[place]), place + 1, i + 1)
 }

@@ -1,11 +1,13 @@
 // The checking pass: how the walk ends. Nothing is stored.
 use crate::fields::too_large;
+use sheet_walk::Cover;
 use sheet_walk::Ending;
 use sheet_walk::Records;
 use sheet_walk::Refusal;
 use sheet_walk::Turn;
 use sheet_walk::items::has_field;
 use sheet_walk::turns::advance;
+use sheet_walk::turns::cover_at;
 use sheet_walk::turns::first_cursor;
 ghost use mathlib.Core.Path.{_≡_};
 ghost use mathlib.Core.List.{List};
@@ -30,12 +32,9 @@ pub fn check_pass(
     let part = has_field(words, back);
     let mut c = first_cursor();
     loop {
-        let turn = advance(words, back, part, kinds, rs, c);
-        match turn {
-            Turn::Goes(next) => {
-                c = next;
-            }
-            Turn::Covers {
+        let cover = cover_at(words, kinds, rs, c);
+        match cover {
+            Cover::Columns {
                 at: _,
                 width: _,
                 next,
@@ -48,11 +47,26 @@ pub fn check_pass(
                 }
                 c = next;
             }
-            Turn::Refused(refusal) => {
-                return Ending::Refused(refusal);
-            }
-            Turn::Ends { records } => {
-                return Ending::Accepted { records };
+            Cover::Nothing => {
+                let turn = advance(words, back, part, kinds, rs, c);
+                match turn {
+                    Turn::Goes(next) => {
+                        c = next;
+                    }
+                    Turn::Covers {
+                        at: _,
+                        width: _,
+                        next: _,
+                    } => {
+                        return Ending::Refused(Refusal::NoRecord);
+                    }
+                    Turn::Refused(refusal) => {
+                        return Ending::Refused(refusal);
+                    }
+                    Turn::Ends { records } => {
+                        return Ending::Accepted { records };
+                    }
+                }
             }
         }
     }

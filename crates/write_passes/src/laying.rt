@@ -1,9 +1,11 @@
 // The laying pass, for a walk that was accepted.
 use crate::fields::put;
+use sheet_walk::Cover;
 use sheet_walk::Records;
 use sheet_walk::Turn;
 use sheet_walk::items::has_field;
 use sheet_walk::turns::advance;
+use sheet_walk::turns::cover_at;
 use sheet_walk::turns::first_cursor;
 ghost use mathlib.Core.Path.{_≡_};
 ghost use mathlib.Core.List.{List};
@@ -36,12 +38,9 @@ pub fn lay_pass(
     let mut starred: usize = 0;
     let mut c = first_cursor();
     loop {
-        let turn = advance(words, back, part, kinds, rs, c);
-        match turn {
-            Turn::Goes(next) => {
-                c = next;
-            }
-            Turn::Covers { at, width, next } => {
+        let cover = cover_at(words, kinds, rs, c);
+        match cover {
+            Cover::Columns { at, width, next } => {
                 let index = c.index;
                 let s = c.state;
                 if put(
@@ -62,11 +61,26 @@ pub fn lay_pass(
                     c = next;
                 }
             }
-            Turn::Refused(_) => {
-                return starred;
-            }
-            Turn::Ends { records: _ } => {
-                return starred;
+            Cover::Nothing => {
+                let turn = advance(words, back, part, kinds, rs, c);
+                match turn {
+                    Turn::Goes(next) => {
+                        c = next;
+                    }
+                    Turn::Covers {
+                        at: _,
+                        width: _,
+                        next: _,
+                    } => {
+                        return starred;
+                    }
+                    Turn::Refused(_) => {
+                        return starred;
+                    }
+                    Turn::Ends { records: _ } => {
+                        return starred;
+                    }
+                }
             }
         }
     }

@@ -9,20 +9,11 @@ use Rattle.field_written.proofs.decimal.put_decimal.Statement.{statemen
 use Rattle.field_written.proofs.decimal.put_decimal.Tie as tie
 
 -- the code's numbers show the field
-counted : (c : tie.After-shown-digits) → Showing (c .before .before .before .before .args .width) (c .before .before .before .before .args .sign) (c .before .before .before .before .args .d) (c .before .before .before .before .args .m) (c .before .sign-width .result) (c .before .before .power-of-ten .result) (c .shown-digits .result)
+counted : (c : tie.After-shown-digits) → Showing (c .before .before .before .args .width) (c .before .before .before .args .sign) (c .before .before .before .args .d) (c .before .before .before .args .m) (c .before .sign-width .result) (c .shown-digits .result)
 counted c =
-    let a = c .before .before .before .before in
+    let a = c .before .before .before in
     decimal-shows
-    record {
-      columns = c .before .sign-width .ensures .0;
-      power = c .before .before .power-of-ten .ensures .0;
-      needed = a .pre .2;
-      room = a .pre .1;
-      shown = c .shown-digits .ensures;
-    }
-
-power-of-ten-requires : tie.Need-power-of-ten-requires
-power-of-ten-requires c κs = search needs
+    record { columns = c .before .sign-width .ensures .0; needed = a .pre .2; room = a .pre .1; shown = c .shown-digits .ensures }
 
 sign-width-requires : tie.Need-sign-width-requires
 sign-width-requires c κs = search needs
@@ -34,7 +25,7 @@ add-rest-2 : tie.Need-add-rest-2
 add-rest-2 c = search needs
 
 sub-shown-digits : tie.Need-sub-shown-digits
-sub-shown-digits c = decimal-rest _ _ _ (c .sign-width .ensures .0) (c .before .before .before .pre .2)
+sub-shown-digits c = decimal-rest _ _ _ (c .sign-width .ensures .0) (c .before .before .pre .2)
 
 sub-shown-digits-2 : tie.Need-sub-shown-digits-2
 sub-shown-digits-2 c = search needs
@@ -54,17 +45,8 @@ fill-requires c κs = search needs
 add-put-numeral : tie.Need-add-put-numeral
 add-put-numeral c = search needs
 
-div-put-numeral : tie.Need-div-put-numeral
-div-put-numeral c = search needs
-
-rem-put-numeral : tie.Need-rem-put-numeral
-rem-put-numeral c = search needs
-
 put-numeral-requires : tie.Need-put-numeral-requires
-put-numeral-requires c κs =
-    let k = c .before .before .before .before .before in
-    let w = counted k in
-    (omega (arith, w .fits), w .few (k .before .before .before .before .pre .4))
+put-numeral-requires c κs = let k = c .before .before .before .before .before in omega (arith, counted k .fits, k .before .sign-width .ensures .0)
 
 same-length : tie.Need-same-length
 same-length c = search needs
@@ -76,13 +58,12 @@ returns c =
     let k = f .before .before in
     let w = counted k in
     rw (w .is)
-    (splice-then _ _ _ _ _ _ _ (f .fill .ensures) (d .put-numeral .ensures) (simp length-replicate) (omega (arith, k .before .before .before .before)))
+    (splice-then _ _ _ _ _ _ _ (f .fill .ensures) (d .put-numeral .ensures) (simp length-replicate) (omega (arith, k .before .before .before)))
 
 pub put-decimal-spec : {M : Type 1} → statement M
 put-decimal-spec =
     tie.close
     (tie.spec
-    power-of-ten-requires
     sign-width-requires
     add-rest
     add-rest-2
@@ -93,8 +74,6 @@ put-decimal-spec =
     sub-blanks-2
     fill-requires
     add-put-numeral
-    div-put-numeral
-    rem-put-numeral
     put-numeral-requires
     same-length
     returns)

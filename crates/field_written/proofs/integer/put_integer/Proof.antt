@@ -9,7 +9,7 @@ use borrow.Author.Needs.{needs}
 use Rattle.field_written.proofs.integer.put_integer.Statement.{statement}
 use Rattle.field_written.proofs.integer.put_integer.Tie as tie
 
--- a digit is among the columns
+-- the columns leave a digit
 digits : (c : tie.After-sign-width) → c .sign-width .result < c .before .before .args .need
 digits c = integer-digits _ _ (c .sign-width .ensures .0) (c .before .before .pre .2)
 
@@ -29,9 +29,7 @@ add-put-sign : tie.Need-add-put-sign
 add-put-sign c = search needs
 
 put-sign-requires : tie.Need-put-sign-requires
-put-sign-requires c κs =
-    let s = c .before .before .before .before .before in
-    omega (arith, s .sign-width .ensures, digits s)
+put-sign-requires c κs = let s = c .before .before .before .before .before in omega (arith, s .sign-width .ensures, digits s)
 
 add-put-digits : tie.Need-add-put-digits
 add-put-digits c = search needs
@@ -40,9 +38,7 @@ add-put-digits-2 : tie.Need-add-put-digits-2
 add-put-digits-2 c = search needs
 
 put-digits-requires : tie.Need-put-digits-requires
-put-digits-requires c κs =
-    let w = digits (c .before .before .before .before .before .before .before .before .before) in
-    omega arith
+put-digits-requires c κs = omega (arith, digits (c .before .before .before .before .before .before .before .before .before))
 
 same-length : tie.Need-same-length
 same-length c = search needs
@@ -56,7 +52,7 @@ returns c =
     let a = s .before .before in
     rw (integer-shows _ _ (s .sign-width .ensures .0) (a .pre .2) (a .pre .1))
     (splice-then _ _ _ _ _ _ _ (f .fill .ensures)
-    (splice-then _ _ _ _ _ _ _ (g .put-sign .ensures) (d .put-digits .ensures) (omega arith) (omega arith))
+    (splice-then _ _ _ _ _ _ _ (g .put-sign .ensures) (d .put-digits .ensures .0) (omega arith) (omega arith))
     (simp length-replicate)
     (omega (arith, a)))
 

@@ -37,7 +37,7 @@ same-length-2 : tie.Need-same-length-2
 same-length-2 c = search needs
 
 returns-2 : tie.Need-returns-2
-returns-2 c = parts-put (c .before .before .before .before .before .before .before .before .before .before .before .args .n) (c .before .before .before .before .before .before .before .before .before .before .before .args .at) (c .before .before .before .before .before .before .before .before .before .before .before .args .dst .now) (omega (arith, c .before .before .before .before .before .before .before .before .before .if1 .left)) (c .before .before .before .before .before .before .before .before .power-of-ten .ensures .0) (c .before .before .before .before .before .before .before .before .before .before .before .pre) (c .before .before .before .before .before .before .put-small2 .ensures .0) (c .before .before .before .before .before .before .put-small2 .ensures .1) (c .before .before .before .before .before .before .put-small2 .ensures .2) (c .before .before .put-digits .ensures)
+returns-2 c = parts-put (c .before .before .before .before .before .before .before .before .before .before .before .args .n) (c .before .before .before .before .before .before .before .before .before .before .before .args .at) (c .before .before .before .before .before .before .before .before .before .before .before .args .dst .now) (omega (arith, c .before .before .before .before .before .before .before .before .before .if1 .left)) (c .before .before .before .before .before .before .before .before .power-of-ten .ensures .0) (c .before .before .before .before .before .before .before .before .before .before .before .pre) (c .before .before .before .before .before .before .put-small2 .ensures .0) (c .before .before .before .before .before .before .put-small2 .ensures .1) (c .before .before .before .before .before .before .put-small2 .ensures .2) (c .before .before .put-digits .ensures .0)
 
 pub put-number-spec : {M : Type 1} → statement M
 put-number-spec =

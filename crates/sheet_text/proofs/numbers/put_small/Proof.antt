@@ -19,7 +19,7 @@ same-length : tie.Need-same-length
 same-length c = search needs
 
 returns : tie.Need-returns
-returns c = small-put _ (c .before .before .before .before .before .before .args .at) (c .before .before .before .before .before .before .args .dst .now) (c .before .before .before .before .digit-count .ensures .0) (c .before .before .put-digits .ensures) (omega (arith, c .before .before .before .before .digit-count .ensures .2))
+returns c = small-put _ (c .before .before .before .before .before .before .args .at) (c .before .before .before .before .before .before .args .dst .now) (c .before .before .before .before .digit-count .ensures .0) (c .before .before .put-digits .ensures .0) (omega (arith, c .before .before .before .before .digit-count .ensures .2))
 
 pub put-small-spec : {M : Type 1} → statement M
 put-small-spec =

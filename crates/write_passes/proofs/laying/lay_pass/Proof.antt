@@ -19,6 +19,8 @@ use Rattle.sheet_walk.specs.declared.Cursor.{Cursor}
 use Rattle.sheet_walk.specs.declared.Turn.{Turn}
 use Rattle.sheet_walk.specs.declared.Turn.the-variants as turn
 use Rattle.sheet_walk.proofs.TurnLaws.{walkAt}
+use Rattle.sheet_walk.specs.declared.Cover.the-variants as cover
+use Rattle.sheet_walk.proofs.CoverLaws.{covers-so, covers-not}
 use Rattle.sheet_walk.proofs.Passes as passes
 use Rattle.write_passes.specs.Placed.{charactersOf, characters, starredOf, starredIn, judged}
 use Rattle.write_passes.specs.Passes.{Passed, Placed}
@@ -33,35 +35,54 @@ Inv-loop dst₀ words back chars area kinds amounts details rs part starred₀ c
 abbrev μ-loop : tie.MeasureT-loop
 μ-loop dst₀ words back chars area kinds amounts details rs part starred₀ c₀ dst starred c = passes.wordTurns words kinds c
 
-abbrev start : tie.After-advance Inv-loop μ-loop → tie.Start Inv-loop μ-loop
+abbrev start : tie.After-cover-at Inv-loop μ-loop → tie.Start Inv-loop μ-loop
 start c = c .before .before .before .before .before .before .before .before .before .before
 
 -- the walk was accepted, for the values vs
-abbrev Accepted : tie.After-advance Inv-loop μ-loop → List Value → Type 0
+abbrev Accepted : tie.After-cover-at Inv-loop μ-loop → List Value → Type 0
 Accepted c vs =
     Passed (start c .args .chars .now) (start c .args .area .now) vs (start c .args .words .now) (start c .args .back) (start c .args .kinds .now)
     (start c .args .amounts .now) (start c .args .details .now) (start c .args .rs)
 
--- what the answer of `advance` says
-known : (c : tie.After-advance Inv-loop μ-loop) (u : Turn) → c .advance .result ≡ u → (vs : List Value) (q : Accepted c vs)
+-- what the answers of `cover_at` and `advance` say
+covered : (c : tie.After-cover-at Inv-loop μ-loop) {a w : ℕ} {n : Cursor} → c .cover-at .result ≡ cover.Columns a w n → (vs : List Value) (q : Accepted c vs)
     → passes.Passed (start c .args .chars .now) (start c .args .words .now) (start c .args .back) (start c .args .kinds .now) (start c .args .rs) (q .ready .loaded)
-    (c .before .loop .c) u
-known c u e vs q =
+    (c .before .loop .c) (turn.Covers a w n)
+covered c {a} {w} {n} e vs q =
     let t = start c .args .chars .now in
     passes.passed t (start c .args .words .now) (start c .args .back) (start c .args .kinds .now) (start c .args .rs) (q .ready .loaded) (c .before .loop .c)
-    (c .before .loop .inv .0 vs q .stands) (c .advance .result) u
-    (c .advance .ensures t (q .ready .loaded .sound) (c .before .before .before .has-field .ensures t)) e
+    (c .before .loop .inv .0 vs q .stands) (turn.Covers a w n) (turn.Covers a w n)
+    (sym (covers-so _ (sym e ∙ c .cover-at .ensures t (start c .args .back) (q .ready .loaded .sound)))) refl
+
+known : (c : tie.After-advance Inv-loop μ-loop) (u : Turn) → c .advance .result ≡ u → (vs : List Value) (q : Accepted (c .before .before .before) vs)
+    → passes.Passed (start (c .before .before .before) .args .chars .now) (start (c .before .before .before) .args .words .now) (start (c .before .before .before) .args .back) (start (c .before .before .before) .args .kinds .now) (start (c .before .before .before) .args .rs) (q .ready .loaded)
+    (c .before .before .before .before .loop .c) u
+known c u e vs q =
+    let a = start (c .before .before .before) in
+    let l = c .before .before .before .before in
+    let t = a .args .chars .now in
+    passes.passed t (a .args .words .now) (a .args .back) (a .args .kinds .now) (a .args .rs) (q .ready .loaded) (l .loop .c) (l .loop .inv .0 vs q .stands) (c .advance .result) u
+    (c .advance .ensures t (q .ready .loaded .sound) (l .before .before .has-field .ensures t)) e
+
+-- where nothing is covered, `advance` covers nothing
+uncovered : (c : tie.After-advance Inv-loop μ-loop) {at w : ℕ} {n : Cursor} → c .advance .result ≡ turn.Covers at w n → (vs : List Value) → Accepted (c .before .before .before) vs → ⊥
+uncovered c e vs q =
+    let a = start (c .before .before .before) in
+    let l = c .before .before .before .before in
+    let t = a .args .chars .now in
+    covers-not (sym (c .before .enum-told .given .1) ∙ c .before .before .before .cover-at .ensures t (a .args .back) (q .ready .loaded .sound))
+    (sym (c .advance .ensures t (q .ready .loaded .sound) (l .before .before .has-field .ensures t)) ∙ e)
 
 -- the word of the next item, its element, and the walk from a cursor on
-abbrev word : tie.After-advance Inv-loop μ-loop → ℕ
+abbrev word : tie.After-cover-at Inv-loop μ-loop → ℕ
 word c = getD (start c .args .words .now) (c .before .loop .c .index) 0
 
 -- at columns covered: what `put` is given
-placed : (c : tie.After-advance Inv-loop μ-loop) {a w : ℕ} {n : Cursor} → c .advance .result ≡ turn.Covers a w n → (vs : List Value) (q : Accepted c vs)
+placed : (c : tie.After-cover-at Inv-loop μ-loop) {a w : ℕ} {n : Cursor} → c .cover-at .result ≡ cover.Columns a w n → (vs : List Value) (q : Accepted c vs)
     → Placed (start c .args .chars .now) (start c .args .area .now) vs (start c .args .kinds .now) (start c .args .amounts .now) (start c .args .details .now) (word c)
     (c .before .loop .c .state .taken) w
 placed c {a} {w} {n} e vs q =
-    let k = known c (turn.Covers a w n) e vs q in
+    let k = covered c e vs q in
     let b = start c .args .back in
     let u = c .before .loop .c in
     let l = c .before .loop .inv .0 vs q in
@@ -74,7 +95,7 @@ placed c {a} {w} {n} e vs q =
     })
 
 -- after it: b says whether a field is starred, and out is the buffer
-goes-on : (c : tie.After-advance Inv-loop μ-loop) {a w : ℕ} {n : Cursor} → c .advance .result ≡ turn.Covers a w n → (b : Bool) {out : List ℕ}
+goes-on : (c : tie.After-cover-at Inv-loop μ-loop) {a w : ℕ} {n : Cursor} → c .cover-at .result ≡ cover.Columns a w n → (b : Bool) {out : List ℕ}
     → ((vs : List Value) → Placed (start c .args .chars .now) (start c .args .area .now) vs (start c .args .kinds .now) (start c .args .amounts .now) (start c .args .details .now) (word c) (c .before .loop .c .state .taken) w
     → b ≡ starredOf vs w (whatOf (metOf (start c .args .chars .now) (word c)) (c .before .loop .c .state .taken)))
     → ((vs : List Value) → Placed (start c .args .chars .now) (start c .args .area .now) vs (start c .args .kinds .now) (start c .args .amounts .now) (start c .args .details .now) (word c) (c .before .loop .c .state .taken) w
@@ -82,7 +103,7 @@ goes-on : (c : tie.After-advance Inv-loop μ-loop) {a w : ℕ} {n : Cursor} → 
     → {starred : ℕ} → starred ≡ c .before .loop .starred + cond b 1 0 → (vs : List Value) (q : Accepted c vs)
     → Laying (start c .args .chars .now) (start c .args .area .now) vs (start c .args .words .now) (start c .args .back) (start c .args .kinds .now) (start c .args .rs) (q .n) (start c .args .dst .now) out starred n
 goes-on c {a} {w} {n} e b stars bytes g vs q =
-    let k = known c (turn.Covers a w n) e vs q in
+    let k = covered c e vs q in
     let l = c .before .loop .inv .0 vs q in
     let R = start c .args .rs .width in
     let area = start c .args .area .now in
@@ -111,64 +132,79 @@ first-cursor-requires c κs = search needs
 loop-holds : tie.Need-loop-holds Inv-loop μ-loop
 loop-holds c = rw (c .first-cursor .ensures) (let a = c .before .before .before .before .before .before .before .before in ((λ vs q. let e = passes.first-walk (a .args .chars .now) (a .args .words .now) (a .args .back) (a .args .kinds .now) (a .args .rs) (q .ready .loaded) in record { stands = passes.first-stands (a .args .chars .now) (a .args .words .now) (a .args .back) (a .args .kinds .now) (a .args .rs) (q .ready .loaded); accepts = ap (judged vs) e ∙ q .accepts; bytes = ap (λ (x : Trace). laid (a .args .rs .width) (characters (a .args .area .now) vs) x (a .args .dst .now)) e; stars = ap (λ (x : Trace). 0 + starredIn vs x) e ∙ zero-add _ }), refl))
 
-advance-requires : tie.Need-advance-requires Inv-loop μ-loop
-advance-requires c κs = let a = c .before .before .before .before .before .before .before .before .before in let q = a .pre .1 in passes.standing (a .args .chars .now) (a .args .words .now) (a .args .back) (a .args .kinds .now) (a .args .rs) (q .passed .ready .loaded) (c .loop .c .state) (c .loop .inv .0 (q .vs) (q .passed) .stands)
+cover-at-requires : tie.Need-cover-at-requires Inv-loop μ-loop
+cover-at-requires c κs = let a = c .before .before .before .before .before .before .before .before .before in let q = a .pre .1 in passes.standing (a .args .chars .now) (a .args .words .now) (a .args .back) (a .args .kinds .now) (a .args .rs) (q .passed .ready .loaded) (c .loop .c .state) (c .loop .inv .0 (q .vs) (q .passed) .stands)
 
-enum-known-turn : tie.Need-enum-known-turn Inv-loop μ-loop
-enum-known-turn c = search needs
-
-loop-less : tie.Need-loop-less Inv-loop μ-loop
-loop-less c = let k = c .before .before .before in let a = start k in let q = a .pre .1 in passes.fewer (a .args .chars .now) (a .args .words .now) (a .args .back) (a .args .kinds .now) (a .args .rs) (q .passed .ready .loaded) (c .before .turn .given .0 .0) (k .before .loop .c) (known k (turn.Goes _) (c .before .turn .given .1) (q .vs) (q .passed) .2)
-
-loop-again : tie.Need-loop-again Inv-loop μ-loop
-loop-again c = let k = c .before .before .before in let a = start k in ((λ vs q. let n = known k (turn.Goes _) (c .before .turn .given .1) vs q in let l = k .before .loop .inv .0 vs q in record { stands = n .1; accepts = sym (ap (judged vs) (n .0)) ∙ l .accepts; bytes = sym (ap (λ (x : Trace). laid (a .args .rs .width) (characters (a .args .area .now) vs) x (k .before .loop .dst)) (n .0)) ∙ l .bytes; stars = sym (ap (λ (x : Trace). k .before .loop .starred + starredIn vs x) (n .0)) ∙ l .stars }), k .before .loop .inv .1)
-
-enum-known-turn-2 : tie.Need-enum-known-turn-2 Inv-loop μ-loop
-enum-known-turn-2 c = search needs
+enum-known-cover : tie.Need-enum-known-cover Inv-loop μ-loop
+enum-known-cover c = search needs
 
 mul-put : tie.Need-mul-put Inv-loop μ-loop
-mul-put c = let k = c .before .before .before .before .before in let a = start k in let q = a .pre .1 in let n = known k (turn.Covers _ _ _) (c .before .before .before .turn2 .given .1) (q .vs) (q .passed) in let h : k .before .loop .c .index < length (a .args .words .now) = in-words (a .args .back) (q .passed .ready) (k .before .loop .c) (n .0) _ (n .4) (n .5) in search needs
+mul-put c = let k = c .before .before .before .before .before in let a = start k in let q = a .pre .1 in let n = covered k (c .before .before .before .cover .given .1) (q .vs) (q .passed) in let h : k .before .loop .c .index < length (a .args .words .now) = in-words (a .args .back) (q .passed .ready) (k .before .loop .c) (n .0) _ (n .4) (n .5) in search needs
 
 shared-slice-read-put : tie.Need-shared-slice-read-put Inv-loop μ-loop
-shared-slice-read-put c = let k = c .before .before .before .before .before .before in let a = start k in let q = a .pre .1 in let n = known k (turn.Covers _ _ _) (c .before .before .before .before .turn2 .given .1) (q .vs) (q .passed) in in-words (a .args .back) (q .passed .ready) (k .before .loop .c) (n .0) _ (n .4) (n .5)
+shared-slice-read-put c = let k = c .before .before .before .before .before .before in let a = start k in let q = a .pre .1 in let n = covered k (c .before .before .before .before .cover .given .1) (q .vs) (q .passed) in in-words (a .args .back) (q .passed .ready) (k .before .loop .c) (n .0) _ (n .4) (n .5)
 
 put-requires : tie.Need-put-requires Inv-loop μ-loop
-put-requires c κs = let k = c .before .before .before .before .before .before in let a = start k in let q = a .pre .1 in let n = known k (turn.Covers _ _ _) (c .before .before .before .before .turn2 .given .1) (q .vs) (q .passed) in let l = k .before .loop .inv .0 (q .vs) (q .passed) in let t = a .args .chars .now in let r = passes.columns-room t (a .args .words .now) (a .args .back) (a .args .kinds .now) (a .args .rs) (q .passed .ready .loaded) (k .before .loop .c) (n .0) _ (n .4) (n .5) (l .stands) in (omega (arith, r, n .6, n .7, a .pre .0, k .before .loop .inv .1), record { vs = q .vs; placed = placed k (c .before .before .before .before .turn2 .given .1) (q .vs) (q .passed) })
+put-requires c κs = let k = c .before .before .before .before .before .before in let a = start k in let q = a .pre .1 in let n = covered k (c .before .before .before .before .cover .given .1) (q .vs) (q .passed) in let l = k .before .loop .inv .0 (q .vs) (q .passed) in let t = a .args .chars .now in let r = passes.columns-room t (a .args .words .now) (a .args .back) (a .args .kinds .now) (a .args .rs) (q .passed .ready .loaded) (k .before .loop .c) (n .0) _ (n .4) (n .5) (l .stands) in (omega (arith, r, n .6, n .7, a .pre .0, k .before .loop .inv .1), record { vs = q .vs; placed = placed k (c .before .before .before .before .cover .given .1) (q .vs) (q .passed) })
 
 add-starred : tie.Need-add-starred Inv-loop μ-loop
 add-starred c = let k = c .before .before .before .before .before .before .before .before .before .before in let a = start k in let q = a .pre .1 in let l = k .before .loop .inv .0 (q .vs) (q .passed) in let h = sheetOf (a .args .chars .now) (a .args .words .now) (a .args .back) (a .args .kinds .now) (a .args .rs) in let f = few-starred h (q .vs) (q .passed .n) (q .passed .accepts) in let e : length (map kindFrom (a .args .kinds .now)) ≡ length (a .args .kinds .now) = length-map (a .args .kinds .now) kindFrom in omega (arith, f, e, l .stars, q .passed .ready .loaded .few)
 
+loop-less : tie.Need-loop-less Inv-loop μ-loop
+loop-less c = let k = c .before .before .before .before .before .before .before .before .before .before in let a = start k in let q = a .pre .1 in passes.fewer (a .args .chars .now) (a .args .words .now) (a .args .back) (a .args .kinds .now) (a .args .rs) (q .passed .ready .loaded) (c .before .before .before .before .before .before .before .before .cover .given .0 .1 .1 .0) (k .before .loop .c) (covered k (c .before .before .before .before .before .before .before .before .cover .given .1) (q .vs) (q .passed) .3)
+
+loop-again : tie.Need-loop-again Inv-loop μ-loop
+loop-again c = let k = c .before .before .before .before .before .before .before .before .before .before in (goes-on k (c .before .before .before .before .before .before .before .before .cover .given .1) (c .before .before .before .put .result) (c .before .before .before .put .ensures .0) (c .before .before .before .put .ensures .1) (rw (c .if1 .taken)), c .before .before .before .put .kept .0 ∙ k .before .loop .inv .1)
+
 loop-less-2 : tie.Need-loop-less-2 Inv-loop μ-loop
-loop-less-2 c = let k = c .before .before .before .before .before .before .before .before .before .before in let a = start k in let q = a .pre .1 in passes.fewer (a .args .chars .now) (a .args .words .now) (a .args .back) (a .args .kinds .now) (a .args .rs) (q .passed .ready .loaded) (c .before .before .before .before .before .before .before .before .turn2 .given .0 .1 .1 .0) (k .before .loop .c) (known k (turn.Covers _ _ _) (c .before .before .before .before .before .before .before .before .turn2 .given .1) (q .vs) (q .passed) .3)
+loop-less-2 c = let k = c .before .before .before .before .before .before .before .before .before .before in let a = start k in let q = a .pre .1 in passes.fewer (a .args .chars .now) (a .args .words .now) (a .args .back) (a .args .kinds .now) (a .args .rs) (q .passed .ready .loaded) (c .before .before .before .before .before .before .before .before .cover .given .0 .1 .1 .0) (k .before .loop .c) (covered k (c .before .before .before .before .before .before .before .before .cover .given .1) (q .vs) (q .passed) .3)
 
 loop-again-2 : tie.Need-loop-again-2 Inv-loop μ-loop
-loop-again-2 c = let k = c .before .before .before .before .before .before .before .before .before .before in (goes-on k (c .before .before .before .before .before .before .before .before .turn2 .given .1) (c .before .before .before .put .result) (c .before .before .before .put .ensures .0) (c .before .before .before .put .ensures .1) (rw (c .if1 .taken)), c .before .before .before .put .kept .0 ∙ k .before .loop .inv .1)
-
-loop-less-3 : tie.Need-loop-less-3 Inv-loop μ-loop
-loop-less-3 c = let k = c .before .before .before .before .before .before .before .before .before .before in let a = start k in let q = a .pre .1 in passes.fewer (a .args .chars .now) (a .args .words .now) (a .args .back) (a .args .kinds .now) (a .args .rs) (q .passed .ready .loaded) (c .before .before .before .before .before .before .before .before .turn2 .given .0 .1 .1 .0) (k .before .loop .c) (known k (turn.Covers _ _ _) (c .before .before .before .before .before .before .before .before .turn2 .given .1) (q .vs) (q .passed) .3)
-
-loop-again-3 : tie.Need-loop-again-3 Inv-loop μ-loop
-loop-again-3 c = let k = c .before .before .before .before .before .before .before .before .before .before in (goes-on k (c .before .before .before .before .before .before .before .before .turn2 .given .1) (c .before .before .before .put .result) (c .before .before .before .put .ensures .0) (c .before .before .before .put .ensures .1) (rw (c .if1 .left) (omega arith)), c .before .before .before .put .kept .0 ∙ k .before .loop .inv .1)
+loop-again-2 c = let k = c .before .before .before .before .before .before .before .before .before .before in (goes-on k (c .before .before .before .before .before .before .before .before .cover .given .1) (c .before .before .before .put .result) (c .before .before .before .put .ensures .0) (c .before .before .before .put .ensures .1) (rw (c .if1 .left) (omega arith)), c .before .before .before .put .kept .0 ∙ k .before .loop .inv .1)
 
 enum-told : tie.Need-enum-told Inv-loop μ-loop
 enum-told c = search needs
 
-same-length : tie.Need-same-length Inv-loop μ-loop
-same-length c = c .before .before .before .loop .inv .1
+advance-requires : tie.Need-advance-requires Inv-loop μ-loop
+advance-requires c κs = let k = c .before .before in let a = start k in let q = a .pre .1 in passes.standing (a .args .chars .now) (a .args .words .now) (a .args .back) (a .args .kinds .now) (a .args .rs) (q .passed .ready .loaded) (k .before .loop .c .state) (k .before .loop .inv .0 (q .vs) (q .passed) .stands)
 
-returns : tie.Need-returns Inv-loop μ-loop
-unfolding laid starredIn
-returns c = let k = c .before .before in let a = start k in ((λ vs q. let e = known k (turn.Refused _) (c .enum-told .given .1) vs q in let l = k .before .loop .inv .0 vs q in sym (add-zero _) ∙ sym (ap (λ (y : Trace). k .before .loop .starred + starredIn vs y) e) ∙ l .stars), (λ vs q. let e = known k (turn.Refused _) (c .enum-told .given .1) vs q in let l = k .before .loop .inv .0 vs q in sym (ap (λ (y : Trace). laid (a .args .rs .width) (characters (a .args .area .now) vs) y (k .before .loop .dst)) e) ∙ l .bytes))
+enum-known-turn : tie.Need-enum-known-turn Inv-loop μ-loop
+enum-known-turn c = search needs
+
+loop-less-3 : tie.Need-loop-less-3 Inv-loop μ-loop
+loop-less-3 c = let k = c .before .before .before in let j = k .before .before .before in let a = start j in let q = a .pre .1 in passes.fewer (a .args .chars .now) (a .args .words .now) (a .args .back) (a .args .kinds .now) (a .args .rs) (q .passed .ready .loaded) (c .before .turn .given .0 .0) (j .before .loop .c) (known k (turn.Goes _) (c .before .turn .given .1) (q .vs) (q .passed) .2)
+
+loop-again-3 : tie.Need-loop-again-3 Inv-loop μ-loop
+loop-again-3 c = let k = c .before .before .before in let j = k .before .before .before in let a = start j in ((λ vs q. let n = known k (turn.Goes _) (c .before .turn .given .1) vs q in let l = j .before .loop .inv .0 vs q in record { stands = n .1; accepts = sym (ap (judged vs) (n .0)) ∙ l .accepts; bytes = sym (ap (λ (x : Trace). laid (a .args .rs .width) (characters (a .args .area .now) vs) x (j .before .loop .dst)) (n .0)) ∙ l .bytes; stars = sym (ap (λ (x : Trace). j .before .loop .starred + starredIn vs x) (n .0)) ∙ l .stars }), j .before .loop .inv .1)
 
 enum-told-2 : tie.Need-enum-told-2 Inv-loop μ-loop
 enum-told-2 c = search needs
 
+same-length : tie.Need-same-length Inv-loop μ-loop
+same-length c = c .before .before .before .before .before .before .loop .inv .1
+
+returns : tie.Need-returns Inv-loop μ-loop
+returns c = ((λ vs q. absurd (uncovered (c .before .before) (c .enum-told2 .given .1) vs q)), (λ vs q. absurd (uncovered (c .before .before) (c .enum-told2 .given .1) vs q)))
+
+enum-told-3 : tie.Need-enum-told-3 Inv-loop μ-loop
+enum-told-3 c = search needs
+
 same-length-2 : tie.Need-same-length-2 Inv-loop μ-loop
-same-length-2 c = c .before .before .before .loop .inv .1
+same-length-2 c = c .before .before .before .before .before .before .loop .inv .1
 
 returns-2 : tie.Need-returns-2 Inv-loop μ-loop
 unfolding laid starredIn
-returns-2 c = let k = c .before .before in let a = start k in ((λ vs q. let e = known k (turn.Ends _) (c .enum-told2 .given .1) vs q in let l = k .before .loop .inv .0 vs q in sym (add-zero _) ∙ sym (ap (λ (y : Trace). k .before .loop .starred + starredIn vs y) e) ∙ l .stars), (λ vs q. let e = known k (turn.Ends _) (c .enum-told2 .given .1) vs q in let l = k .before .loop .inv .0 vs q in sym (ap (λ (y : Trace). laid (a .args .rs .width) (characters (a .args .area .now) vs) y (k .before .loop .dst)) e) ∙ l .bytes))
+returns-2 c = let k = c .before .before in let j = k .before .before .before in let a = start j in ((λ vs q. let e = known k (turn.Refused _) (c .enum-told3 .given .1) vs q in let l = j .before .loop .inv .0 vs q in sym (add-zero _) ∙ sym (ap (λ (y : Trace). j .before .loop .starred + starredIn vs y) e) ∙ l .stars), (λ vs q. let e = known k (turn.Refused _) (c .enum-told3 .given .1) vs q in let l = j .before .loop .inv .0 vs q in sym (ap (λ (y : Trace). laid (a .args .rs .width) (characters (a .args .area .now) vs) y (j .before .loop .dst)) e) ∙ l .bytes))
+
+enum-told-4 : tie.Need-enum-told-4 Inv-loop μ-loop
+enum-told-4 c = search needs
+
+same-length-3 : tie.Need-same-length-3 Inv-loop μ-loop
+same-length-3 c = c .before .before .before .before .before .before .loop .inv .1
+
+returns-3 : tie.Need-returns-3 Inv-loop μ-loop
+unfolding laid starredIn
+returns-3 c = let k = c .before .before in let j = k .before .before .before in let a = start j in ((λ vs q. let e = known k (turn.Ends _) (c .enum-told4 .given .1) vs q in let l = j .before .loop .inv .0 vs q in sym (add-zero _) ∙ sym (ap (λ (y : Trace). j .before .loop .starred + starredIn vs y) e) ∙ l .stars), (λ vs q. let e = known k (turn.Ends _) (c .enum-told4 .given .1) vs q in let l = j .before .loop .inv .0 vs q in sym (ap (λ (y : Trace). laid (a .args .rs .width) (characters (a .args .area .now) vs) y (j .before .loop .dst)) e) ∙ l .bytes))
 
 pub lay-pass-spec : {M : Type 1} → statement M
 lay-pass-spec =
@@ -179,22 +215,27 @@ lay-pass-spec =
     has-field-requires
     first-cursor-requires
     loop-holds
-    advance-requires
-    enum-known-turn
-    loop-less
-    loop-again
-    enum-known-turn-2
+    cover-at-requires
+    enum-known-cover
     mul-put
     shared-slice-read-put
     put-requires
     add-starred
+    loop-less
+    loop-again
     loop-less-2
     loop-again-2
+    enum-told
+    advance-requires
+    enum-known-turn
     loop-less-3
     loop-again-3
-    enum-told
+    enum-told-2
     same-length
     returns
-    enum-told-2
+    enum-told-3
     same-length-2
-    returns-2)
+    returns-2
+    enum-told-4
+    same-length-3
+    returns-3)
