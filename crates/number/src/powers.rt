@@ -34,30 +34,10 @@ pub fn table() -> [u64; 19]
     POWERS
 }
 
-// 10^k. Each entry is named by a number of its own: then the compiler keeps the table, where an index would lay it out anew.
+// 10^k
 pub fn power_of_ten(k: usize) -> u64
     requires { ⌜ k < 19 ⌝ }
     ensures { λ r. ⌜ (r ≡ 10 ^ k) × (0 < r) ⌝ }
 {
-    match k {
-        0 => POWERS[0],
-        1 => POWERS[1],
-        2 => POWERS[2],
-        3 => POWERS[3],
-        4 => POWERS[4],
-        5 => POWERS[5],
-        6 => POWERS[6],
-        7 => POWERS[7],
-        8 => POWERS[8],
-        9 => POWERS[9],
-        10 => POWERS[10],
-        11 => POWERS[11],
-        12 => POWERS[12],
-        13 => POWERS[13],
-        14 => POWERS[14],
-        15 => POWERS[15],
-        16 => POWERS[16],
-        17 => POWERS[17],
-        _ => POWERS[18],
-    }
+    POWERS[k]
 }
