@@ -5,7 +5,7 @@ ghost use lib.ListN.{length};
 ghost use Rattle.number.specs.Powers.{powersOfTen};
 
 // 10^0 to 10^18.
-const POWERS: [u64; 19] = [
+pub const POWERS: [u64; 19] = [
     1,
     10,
     100,

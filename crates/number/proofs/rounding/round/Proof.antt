@@ -1,6 +1,9 @@
 -- `number::rounding::round` meets its contract.
 -- Assumes nothing.
+use mathlib.Core.Path.{refl}
+use Prim.Native.Nat.{_-_, _^_}
 use native.Mathlib.Omega.{arith}
+use Rattle.number.proofs.PowerLaws.{ten-pos}
 use Rattle.number.proofs.RoundingLaws.{nearest-same, nearest-up, nearest-down, answer-units, answer-large, times-small, times-large, down-small}
 use borrow.Author.Needs.{needs}
 use Rattle.number.proofs.rounding.round.Statement.{statement}
@@ -18,8 +21,8 @@ power-of-ten-requires c κs = search needs
 div-if3 : tie.Need-div-if3
 div-if3 c = search needs
 
-mul-t10 : tie.Need-mul-t10
-mul-t10 c = omega (arith, times-small (c .before .power-of-ten .ensures .1) (c .if3 .taken))
+mul-t9 : tie.Need-mul-t9
+mul-t9 c = omega (arith, times-small (c .before .power-of-ten .ensures .1) (c .if3 .taken))
 
 returns-2 : tie.Need-returns-2
 returns-2 c =
@@ -31,19 +34,15 @@ returns-3 c =
     let e = c .before .power-of-ten .ensures in
     answer-large _ _ _ (nearest-up _ _ _ (omega arith) (e .0)) (times-large (e .1) (c .if3 .left))
 
-power-of-ten-requires-2 : tie.Need-power-of-ten-requires-2
-power-of-ten-requires-2 c κs = search needs
-
-add-t13 : tie.Need-add-t13
-add-t13 c = search needs
-
-div-t14 : tie.Need-div-t14
-div-t14 c = search needs
+fewer-places-requires : tie.Need-fewer-places-requires
+fewer-places-requires c κs = search needs
 
 returns-4 : tie.Need-returns-4
 returns-4 c =
-    let e = c .power-of-ten2 .ensures in
-    answer-units _ _ _ (nearest-down _ _ _ (omega arith) (e .0)) (down-small (e .1) (c .before .before .before .pre .0))
+    let a = c .before .before .before in
+    let k = a .args .places - a .args .wanted in
+    rw (c .fewer-places .ensures)
+    (answer-units _ _ _ (nearest-down _ _ _ {p = 10 ^ k} (omega arith) refl) (down-small (ten-pos k) (a .pre .0)))
 
 pub round-spec : {M : Type 1} → statement M
 round-spec =
@@ -53,10 +52,8 @@ round-spec =
     sub-power-of-ten
     power-of-ten-requires
     div-if3
-    mul-t10
+    mul-t9
     returns-2
     returns-3
-    power-of-ten-requires-2
-    add-t13
-    div-t14
+    fewer-places-requires
     returns-4)
