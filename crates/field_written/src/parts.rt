@@ -31,11 +31,29 @@ pub fn put_sign(dst: &mut [u8], at: usize, sign: Sign)
     }
 }
 
-// The last k digits of m; answers the number that the digits before them make.
+// The last k digits of m; answers the number that the digits before them make. Divisions of 32 bits are cheaper.
+fn put_narrow(dst: &mut [u8], at: usize, k: usize, m: u32) -> u32
+    requires { ⌜ at + k ≤ length (now dst) ⌝ }
+    ensures { λ r. ⌜ (now (dst .exit) ≡ splice (now (dst .entry)) at (digitsOf k m)) × (r ≡ m / 10 ^ k) ⌝ }
+{
+    let mut rest = m;
+    let mut i = k;
+    while 0 < i {
+        i -= 1;
+        dst[at + i] = b'0' + (rest % 10) as u8;
+        rest = rest / 10;
+    }
+    rest
+}
+
+// The same for any m.
 pub fn put_digits(dst: &mut [u8], at: usize, k: usize, m: u64) -> u64
     requires { ⌜ at + k ≤ length (now dst) ⌝ }
     ensures { λ r. ⌜ (now (dst .exit) ≡ splice (now (dst .entry)) at (digitsOf k m)) × (r ≡ m / 10 ^ k) ⌝ }
 {
+    if m < 4_294_967_296 {
+        return put_narrow(dst, at, k, m as u32) as u64;
+    }
     let mut rest = m;
     let mut i = k;
     while 0 < i {

@@ -1,6 +1,7 @@
 -- `field_written::parts::put_digits` meets its contract.
 -- Assumes nothing.
 use native.Mathlib.Omega.{arith}
+use borrow.Author.Needs.{needs}
 use Rattle.field_written.proofs.Making.{Made, made-none, made-more, made-all}
 use Rattle.field_written.proofs.parts.put_digits.Statement.{statement}
 use Rattle.field_written.proofs.parts.put_digits.Tie as tie
@@ -11,8 +12,23 @@ Inv-loop dst₀ at k m rest₀ i₀ dst rest i = Made dst₀ at k m dst rest i
 abbrev μ-loop : tie.MeasureT-loop
 μ-loop dst₀ at k m rest₀ i₀ dst rest i = i
 
+cast-put-narrow : tie.Need-cast-put-narrow Inv-loop μ-loop
+cast-put-narrow c = search needs
+
+put-narrow-requires : tie.Need-put-narrow-requires Inv-loop μ-loop
+put-narrow-requires c κs = search needs
+
+cast-result : tie.Need-cast-result Inv-loop μ-loop
+cast-result c = search needs
+
+same-length : tie.Need-same-length Inv-loop μ-loop
+same-length c = search needs
+
+returns : tie.Need-returns Inv-loop μ-loop
+returns c = c .before .before .put-narrow .ensures
+
 loop-holds : tie.Need-loop-holds Inv-loop μ-loop
-loop-holds c = made-none (c .pre)
+loop-holds c = made-none (c .before .before .pre)
 
 sub-i : tie.Need-sub-i Inv-loop μ-loop
 sub-i c = omega arith
@@ -35,11 +51,11 @@ loop-less c = omega arith
 loop-again : tie.Need-loop-again Inv-loop μ-loop
 loop-again c = made-more (c .before .loop .inv) (c .loop-test .taken)
 
-same-length : tie.Need-same-length Inv-loop μ-loop
-same-length c = omega arith
+same-length-2 : tie.Need-same-length-2 Inv-loop μ-loop
+same-length-2 c = omega arith
 
-returns : tie.Need-returns Inv-loop μ-loop
-returns c = made-all (c .before .loop .inv) (c .loop-test .left)
+returns-2 : tie.Need-returns-2 Inv-loop μ-loop
+returns-2 c = made-all (c .before .loop .inv) (c .loop-test .left)
 
 pub put-digits-spec : {M : Type 1} → statement M
 put-digits-spec =
@@ -47,6 +63,11 @@ put-digits-spec =
     (tie.spec
     Inv-loop
     μ-loop
+    cast-put-narrow
+    put-narrow-requires
+    cast-result
+    same-length
+    returns
     loop-holds
     sub-i
     cast-dst
@@ -55,5 +76,5 @@ put-digits-spec =
     slice-write-dst
     loop-less
     loop-again
-    same-length
-    returns)
+    same-length-2
+    returns-2)
