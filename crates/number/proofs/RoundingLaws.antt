@@ -7,9 +7,9 @@ use native.Mathlib.Decide.{decLt}
 use native.Mathlib.Nat.{mul-one, mul-assoc, mul-left-comm, add-mul, mul-div-mul-left, mul-div-mul-right, le-div-iff-mul-le, div-lt-iff-lt-mul, div-mul-le-self, lt-div-mul-add, mul-le-mul-right, le-antisymm, zero-mul}
 use native.Mathlib.Omega.{arith}
 use lib.Arith.{digits-div}
-use lib.Dec.{ltb}
+use lib.Dec.{leb, ltb}
 use lib.IntN.{ℤ, pos, negsuc, negℤ, natAbs, _*ℤ_, _-ℤ_, negℤ-negℤ, negℤ-+ℤ}
-use borrow.Author.Tests.{lt-ltb, le-ltb, ltb-true, ltb-false}
+use borrow.Author.Tests.{lt-ltb, le-ltb, ltb-true, ltb-false, leb-true, leb-false}
 use Rattle.number.specs.Limits.{largest}
 use Rattle.number.specs.Magnitude.{negative}
 use Rattle.number.specs.Rounding.{Nearest, distance, roundedMagnitude, roundedUnits, tooLarge, roundingAnswer}
@@ -55,12 +55,23 @@ pub answer-large : (u s d : ℕ) {v : ℕ} → roundedMagnitude u s d ≡ v → 
 unfolding roundingAnswer
 answer-large u s d e h = simp (e, lt-ltb _ _ h)
 
--- the test u ≤ (10^18 - 1) / p says whether u * p is small enough
-pub times-small : {u p : ℕ} → 0 < p → u ≤ largest / p → u * p ≤ largest
-times-small h g = omega (arith, le-div-iff-mul-le h .0 g)
+-- u * 10^k is small enough exactly where u is below 10^(18 - k). (Both powers are variables with their equations, as the code
+-- has them.)
+module _ {p q : ℕ} (k : ℕ) (h : k ≤ 18) (e : p ≡ 10 ^ k) (f : q ≡ 10 ^ (18 - k)) where
+  product : q * p ≡ 10 ^ 18
+  product = rw (e, f) (sym (ten-split k 18 h))
 
-pub times-large : {u p : ℕ} → 0 < p → largest / p < u → largest < u * p
-times-large h g = omega (arith, div-lt-iff-lt-mul h .0 g)
+  pub times-small : {u : ℕ} → u < q → u * p ≤ largest
+  times-small {u} l =
+      let a : (u + 1) * p ≤ q * p = mul-le-mul-right p (omega arith) in
+      let b : 0 < p = rw e (ten-pos k) in
+      let c : (u + 1) * p ≡ u * p + 1 * p = add-mul u 1 p in
+      omega (arith, product)
+
+  pub times-large : {u : ℕ} → q ≤ u → largest < u * p
+  times-large {u} l =
+      let a : q * p ≤ u * p = mul-le-mul-right p l in
+      omega (arith, product)
 
 pub down-small : {u p : ℕ} → 0 < p → u ≤ largest → (u + p / 2) / p ≤ largest
 down-small {u} {p} h g =
@@ -108,15 +119,18 @@ fewer-small u s d h l = sym (large-is u s d ∙ le-ltb largest (roundedMagnitude
         ]
 
 -- more places: by the test
-pub more-large : (u : ℤ) (s d : ℕ) {m p : ℕ} → s < d → p ≡ 10 ^ (d - s) → 0 < p → m ≡ natAbs u → ltb (largest / p) m ≡ tooLarge u s d
-more-large u s d {m} {p} l e z n = go (ltb (largest / p) m) refl ∙ sym (large-is u s d)
+pub more-large : (u : ℤ) (s d : ℕ) {m q : ℕ} → s < d → d - s ≤ 18 → q ≡ 10 ^ (18 - (d - s)) → m ≡ natAbs u → leb q m ≡ tooLarge u s d
+more-large u s d {m} {q} l h f n = go (leb q m) refl ∙ sym (large-is u s d)
   where
-    v : roundedMagnitude (natAbs u) s d ≡ m * p
-    v = nearest-up (natAbs u) s d {p = p} (omega arith) e ∙ ap (λ k. k * p) (sym n)
+    p : ℕ
+    p = 10 ^ (d - s)
 
-    go : (b : Bool) → ltb (largest / p) m ≡ b → b ≡ ltb largest (roundedMagnitude (natAbs u) s d)
-    go true q = rw v (sym (lt-ltb largest (m * p) (times-large z (ltb-true (largest / p) m q))))
-    go false q = rw v (sym (le-ltb largest (m * p) (times-small z (ltb-false (largest / p) m q))))
+    v : roundedMagnitude (natAbs u) s d ≡ m * p
+    v = nearest-up (natAbs u) s d {p = p} (omega arith) refl ∙ ap (λ k. k * p) (sym n)
+
+    go : (b : Bool) → leb q m ≡ b → b ≡ ltb largest (roundedMagnitude (natAbs u) s d)
+    go true t = rw v (sym (lt-ltb largest (m * p) (times-large (d - s) h refl f (leb-true q m t))))
+    go false t = rw v (sym (le-ltb largest (m * p) (times-small (d - s) h refl f (leb-false q m t))))
 
 -- ---- what it means
 

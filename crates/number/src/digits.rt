@@ -1,4 +1,5 @@
 // Decimal digits.
+use crate::MOST_DIGITS;
 use crate::powers::power_of_ten;
 ghost use mathlib.Core.Path.{_≡_};
 ghost use Prim.Native.Nat.{_<_, _≤_};
@@ -49,5 +50,5 @@ pub fn digit_count(m: u64) -> usize
     if m < power_of_ten(12) {
         return count_within(m, 7, 12);
     }
-    count_within(m, 13, 18)
+    count_within(m, 13, MOST_DIGITS)
 }

@@ -7,6 +7,9 @@ pub mod sign;
 // The largest magnitude of an integer and of a decimal's units.
 pub const LARGEST: u64 = 999_999_999_999_999_999;
 
+// Its digits.
+pub const MOST_DIGITS: usize = 18;
+
 // The most places of a decimal.
 pub const MOST_PLACES: usize = 9;
 

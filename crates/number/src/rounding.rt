@@ -1,8 +1,9 @@
 // Rounding a decimal, on magnitudes.
-use crate::LARGEST;
+use crate::MOST_DIGITS;
 use crate::Rounded;
 use crate::powers::POWERS;
 use crate::powers::power_of_ten;
+use crate::powers::table;
 use crate::sign::magnitude;
 ghost use mathlib.Core.Path.{_≡_};
 ghost use Prim.Native.Nat.{_+_, _/_, _^_, _<_, _≤_};
@@ -45,9 +46,10 @@ pub fn round(units: u64, places: usize, wanted: usize) -> Rounded
         return Rounded::Units(units);
     }
     if places < wanted {
-        let p = power_of_ten(wanted - places);
-        if units <= LARGEST / p {
-            return Rounded::Units(units * p);
+        let powers = table();
+        let k = wanted - places;
+        if units < powers[MOST_DIGITS - k] {
+            return Rounded::Units(units * powers[k]);
         }
         return Rounded::TooLarge;
     }
@@ -62,5 +64,5 @@ pub fn too_large(units: i64, places: usize, wanted: usize) -> bool
     if wanted <= places {
         return false;
     }
-    LARGEST / power_of_ten(wanted - places) < magnitude(units)
+    power_of_ten(MOST_DIGITS - (wanted - places)) <= magnitude(units)
 }

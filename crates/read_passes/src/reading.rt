@@ -58,6 +58,7 @@ pub fn read_pass(
                     Turn::Goes(next) => {
                         c = next;
                     }
+                    // Never: `cover_at` answers every turn that covers.
                     Turn::Covers {
                         at: _,
                         width: _,

@@ -53,6 +53,7 @@ pub fn check_pass(
                     Turn::Goes(next) => {
                         c = next;
                     }
+                    // Never: `cover_at` answers every turn that covers.
                     Turn::Covers {
                         at: _,
                         width: _,

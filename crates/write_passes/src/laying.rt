@@ -67,6 +67,7 @@ pub fn lay_pass(
                     Turn::Goes(next) => {
                         c = next;
                     }
+                    // Never: `cover_at` answers every turn that covers.
                     Turn::Covers {
                         at: _,
                         width: _,
