@@ -49,6 +49,7 @@ becomes-writing R format text B = rw (text-list-check text, values-list (lineVal
 pub writing-from-is : WritingFromIs
 writing-from-is =
     record {
+      checks = λ text. sym (text-list-check text);
       becomes = becomes-writing;
       answers = λ R format text buffer. rw (text-list-check text, values-list (lineValues text));
       bytes = λ R format text buffer. rw (text-list-check text, values-list (lineValues text));

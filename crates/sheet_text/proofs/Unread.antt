@@ -22,7 +22,7 @@ use Rattle.list_text.specs.ListText.{lineValues, lineCheck}
 use Rattle.list_text.specs.Promises.{longestList}
 use Rattle.list_text.proofs.LineLaws.{line-short}
 use Rattle.list_text.proofs.Longest.{line-over, line-ended, after-long, digits-over, long-refused}
-use Rattle.sheet_text.specs.Input.{longestWidth, widthOn, inputWidth, inputFormat, inputList}
+use Rattle.sheet_text.specs.Input.{mostWidthDigits, widthOn, inputWidth, inputFormat, inputList}
 use Rattle.sheet_text.specs.Output.{outputOf}
 use Rattle.sheet_text.specs.SheetOutput.{recordBuffer, sheetOutput}
 use Rattle.sheet_text.specs.Promises.{longestInput, RestUnread}
@@ -42,9 +42,9 @@ wide-out : (R : ℕ) (f g a b : List ℕ) → widthRight R ≡ false → out R f
 unfolding out writingOf
 wide-out R f g a b e = rw e
 
-line-wide : (l : List ℕ) → longestWidth < length l → widthOn l ≡ 0
+line-wide : (l : List ℕ) → mostWidthDigits < length l → widthOn l ≡ 0
 unfolding widthOn
-line-wide l h = rw (digits-over longestWidth l h)
+line-wide l h = rw (digits-over mostWidthDigits l h)
 
 -- ---- a format that is too long
 
@@ -90,9 +90,9 @@ rest-format R s more h = go (decLt longestFormat (length (firstLine s)))
 -- and whatever follows a long input
 rest-input : (s more : List ℕ) → longestInput < length s → sheetOutput (s ++ more) ≡ sheetOutput s
 unfolding sheetOutput out
-rest-input s more h = go (decLt longestWidth (length (firstLine s)))
+rest-input s more h = go (decLt mostWidthDigits (length (firstLine s)))
   where
-    go : Dec (longestWidth < length (firstLine s)) → out (inputWidth (s ++ more)) (inputFormat (s ++ more)) (inputList (s ++ more)) ≡ out (inputWidth s) (inputFormat s) (inputList s)
+    go : Dec (mostWidthDigits < length (firstLine s)) → out (inputWidth (s ++ more)) (inputFormat (s ++ more)) (inputList (s ++ more)) ≡ out (inputWidth s) (inputFormat s) (inputList s)
     go (yes long) =
         let a = line-wide (firstLine s) long in
         let b = line-wide (firstLine (s ++ more)) (omega (arith, line-over s more)) in

@@ -8,12 +8,12 @@ use Rattle.list_text.specs.Lines.{firstLine, afterLine}
 use Rattle.list_text.specs.ElementLines.{someDigits}
 
 -- 'one to three digits'
-abbrev pub longestWidth : ℕ
-longestWidth = 3
+abbrev pub mostWidthDigits : ℕ
+mostWidthDigits = 3
 
 -- 'a first line other than one to three digits is refusal 1': R is then 0, which row 1 refuses
 unfoldable pub widthOn : List ℕ → ℕ
-widthOn l = cond (someDigits longestWidth l) (value l) 0
+widthOn l = cond (someDigits mostWidthDigits l) (value l) 0
 
 abbrev pub inputWidth : List ℕ → ℕ
 inputWidth s = widthOn (firstLine s)

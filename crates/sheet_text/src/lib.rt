@@ -11,6 +11,5 @@ pub const RECORD_BUFFER: usize = 65536;
 // Room for every output: as many line feeds as bytes of records at most, and a last line.
 pub const OUTPUT: usize = 131200;
 
-// So many bytes of an input are enough: of a longer one the rest does not matter (the law `RestUnread`, whose bound this is
-// over).
+// As many bytes of its input as the program keeps: of a longer one the rest does not matter (`sheet::sheet` promises it).
 pub const INPUT: usize = 8192;

@@ -5,12 +5,18 @@ use Rattle.sheet_text.proofs.sheet.sheet.Statement.{statement}
 use Rattle.sheet_text.proofs.sheet.sheet.Tie as tie
 use native.Mathlib.Omega.{arith}
 use mathlib.Core.Path.{_≡_, sym, ap, _∙_}
+use mathlib.Core.List.{List}
 use Prim.Native.Nat.{ℕ, _*_, _≤_}
-use lib.ListN.{length}
+use lib.ListN.{length, take}
 use lib.Seq.{length-take-le}
 use Rattle.sheet_text.specs.Input.{widthOn, inputWidth}
-use Rattle.sheet_text.specs.SheetOutput.{recordBuffer}
+use Rattle.sheet_text.specs.SheetOutput.{recordBuffer, sheetOutput}
+use Rattle.sheet_text.proofs.Unread.{rest-unread}
 use Rattle.sheet_text.proofs.SheetLaws.{Split, split, Did, did, sheet-refused, sheet-accepted, output-put}
+
+-- the output for a beginning that is long enough
+beginning : (s whole : List ℕ) → s ≡ take 8192 whole → sheetOutput s ≡ sheetOutput whole
+beginning s whole e = ap sheetOutput e ∙ rest-unread whole 8192 (omega arith)
 
 line-end-requires : tie.Need-line-end-requires
 line-end-requires c κs = search needs
@@ -108,7 +114,7 @@ returns c =
     let e = sheet-refused (c .before .before .before .before .before .before .before .before .before .before .before .before .before .before .before .before .before .before .args .input .now) (c .before .before .before .before .before .before .before .before .before .before .before .before .before .before .before .before .before .before .args .records .now) d (c .before .before .before .before .before .refusal .given .1) in
     let n = c .before .number-of .ensures in
     let p = c .before .before .before .place-of .ensures in
-    (c .put-refused .ensures .1 ∙ rw (n, p, e), (omega (arith, c .put-refused .ensures .2), (c .put-refused .ensures .0 ∙ rw (n, p, e), d .is)))
+    (c .put-refused .ensures .1 ∙ rw (n, p, e), (omega (arith, c .put-refused .ensures .2), (c .put-refused .ensures .0 ∙ rw (n, p, e), (d .is, beginning _))))
 
 returns-2 : tie.Need-returns-2
 returns-2 c =
@@ -116,7 +122,7 @@ returns-2 c =
     let o = sheet-accepted (c .before .before .before .before .before .before .before .before .before .before .before .before .before .before .before .before .before .before .before .before .args .input .now) (c .before .before .before .before .before .before .before .before .before .before .before .before .before .before .before .before .before .before .before .before .args .records .now) (full (c .before .before .before .before .before .before .before .before .before)) d (c .before .before .before .before .before .before .before .count .given .1) in
     let f = lines-fit (c .before .before .before .before .before .before) in
     let w = output-put (c .before .before .before .before .before .before .before .before .before .before .before .before .before .before .before .before .before .before .before .before .args .input .now) _ o (c .before .before .before .before .before .before .before .before .before .before .before .before .before .before .before .before .before .before .before .before .args .output .now) (width-is (c .before .before .before .before .before .before .before .before .before)) (c .before .before .put-records .ensures .0) (c .before .before .put-records .ensures .1) (c .put-counts .ensures .0) (c .put-counts .ensures .1) in
-    (w .0, (omega (arith, f .0, f .1, c .before .before .put-records .ensures .2, c .put-counts .ensures .2), (w .1, d .is)))
+    (w .0, (omega (arith, f .0, f .1, c .before .before .put-records .ensures .2, c .put-counts .ensures .2), (w .1, (d .is, beginning _))))
 
 pub sheet-spec : {M : Type 1} → statement M
 sheet-spec =
