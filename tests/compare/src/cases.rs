@@ -1,9 +1,10 @@
 //! Random cases for each call.
 
 use crate::bytes::Bytes;
+use crate::damage::damaged;
 use crate::formats::format;
 use crate::lists::{bad, list};
-use crate::random::{damaged, Random};
+use random::Random;
 use reference::format::Field;
 use reference::trace::{trace, Content};
 use reference::Value;
@@ -79,10 +80,10 @@ fn width(random: &mut Random, case: &Writing) -> u64 {
     let least = least_width(case);
     match random.below(100) {
         0..=44 => least,
-        45..=74 => least.max(random.within(1..=255) as u64),
+        45..=74 => least.max(random.within(1..=255)),
         75..=84 => random.pick(&[255, 254, 132, 80]).max(least),
         85..=91 => (least - 1).max(1),
-        _ => random.within(1..=255) as u64,
+        _ => random.within(1..=255),
     }
 }
 

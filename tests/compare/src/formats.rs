@@ -1,6 +1,7 @@
 //! Random formats.
 
-use crate::random::{damaged, Random};
+use crate::damage::damaged;
+use random::Random;
 
 const ALPHABET: &[u8] = b"(((()))),,,,IIFFLLAAXXTT//''\"\"0123456789.  +-ift\x1f\x7f\x00\xff\n";
 
@@ -146,7 +147,7 @@ impl<'a> Maker<'a> {
         self.put([mark]);
         for _ in 0..self.random.within(1..=6) {
             let character =
-                if self.random.chance(25) { self.random.pick(b"'\"") } else { self.random.within(32..=126) as u8 };
+                if self.random.chance(25) { self.random.pick(b"'\"") } else { self.random.within(32..=126) };
             self.put([character]);
             if character == mark {
                 self.put([mark]);

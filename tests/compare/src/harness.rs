@@ -4,9 +4,9 @@ use crate::bytes::Bytes;
 use crate::calls::{Answer, Calls, List, Reference, SHEET_OUTPUT};
 use crate::cases::{list_text, reading, sheet_text, tall_sheet, writing, Reading, Writing};
 use crate::formats::{damaged_format, noise};
-use crate::random::Random;
 use crate::readback;
 use crate::tally::{Call, Tally};
+use random::Random;
 use std::fmt::{self, Debug};
 
 /// A case in which the two differ, told in full.

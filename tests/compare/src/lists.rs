@@ -1,6 +1,6 @@
 //! Random lists, mostly of elements that suit a format's fields.
 
-use crate::random::Random;
+use random::Random;
 use reference::format::{Field, Format};
 use reference::list::LARGEST;
 use reference::trace::fields_met;
@@ -67,7 +67,7 @@ fn area(random: &mut Random) -> Vec<u8> {
 }
 
 fn any_field(random: &mut Random) -> Field {
-    let w = random.within(1..=9) as u64;
+    let w = random.within(1..=9);
     random.pick(&[
         Field::Integer { w },
         Field::Decimal { w, d: w / 2 },
@@ -170,7 +170,7 @@ fn near_largest(random: &mut Random, d: usize) -> Value {
 }
 
 fn text(random: &mut Random, w: Option<u64>, area: usize) -> Value {
-    let w = w.unwrap_or(random.within(1..=9) as u64) as usize;
+    let w = w.unwrap_or(random.within(1..=9)) as usize;
     let len = match random.below(20) {
         0..=11 => random.within(1..=w.min(64)),
         12..=15 => random.within(w.min(64)..=(w + 5).min(64)),

@@ -6,19 +6,20 @@
 mod bytes;
 mod calls;
 mod cases;
+mod damage;
 mod formats;
 mod harness;
 mod lists;
-mod random;
 mod readback;
 mod slips;
 mod tally;
 
 use calls::{Calls, Reference};
 use harness::Harness;
+use random::clock_seed;
 use std::env;
 use std::process::ExitCode;
-use std::time::{Instant, SystemTime, UNIX_EPOCH};
+use std::time::Instant;
 
 const CASES: usize = 200_000;
 /// Cases in which a wrong variant must be noticed.
@@ -29,10 +30,10 @@ fn main() -> ExitCode {
     let self_test = arguments.first().is_some_and(|first| first == "--self-test");
     let numbers: Option<Vec<u64>> = arguments.iter().skip(self_test.into()).map(|text| text.parse().ok()).collect();
     let passed = match (self_test, numbers.as_deref()) {
-        (true, Some([])) => run_self_test(clock()),
+        (true, Some([])) => run_self_test(clock_seed()),
         (true, Some([seed])) => run_self_test(*seed),
-        (false, Some([])) => compare(CASES, clock()),
-        (false, Some([cases])) => compare(*cases as usize, clock()),
+        (false, Some([])) => compare(CASES, clock_seed()),
+        (false, Some([cases])) => compare(*cases as usize, clock_seed()),
         (false, Some([cases, seed])) => compare(*cases as usize, *seed),
         _ => {
             eprintln!("compare [CASES] [SEED] | compare --self-test [SEED]");
@@ -44,11 +45,6 @@ fn main() -> ExitCode {
     } else {
         ExitCode::FAILURE
     }
-}
-
-fn clock() -> u64 {
-    let now = SystemTime::now().duration_since(UNIX_EPOCH).expect("the clock stands after 1970");
-    now.as_nanos() as u64
 }
 
 fn compare(cases: usize, seed: u64) -> bool {

@@ -3,7 +3,7 @@
 
 use crate::calls::{Answer, Calls, List};
 use crate::cases::{kinds, texts_length, Reading, Writing};
-use crate::random::Random;
+use random::Random;
 use reference::format::Field;
 use reference::trace::{trace, Content, Placement, Shown, Trace};
 use reference::{Counts, Refusal, Value};

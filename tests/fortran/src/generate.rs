@@ -4,9 +4,9 @@ use crate::calls::Value;
 use crate::compiler::Compiler;
 use crate::format::{self, Field, Item};
 use crate::models::{self, File};
-use crate::random::Random;
 use crate::values::{self, Choice};
 use crate::walk::{self, Layout, Met};
+use random::Random;
 
 /// The longest format, in bytes; libf2c takes some 300 items.
 const LONGEST: usize = 512;
@@ -70,7 +70,7 @@ pub fn sheet(rng: &mut Random, compiler: Compiler) -> Sheet {
     if !plain {
         return base;
     }
-    match rng.range(0, 29) {
+    match rng.below(30) {
         0 if compiler != Compiler::F2c => record_short(base.clone()).unwrap_or(base),
         1..=4 => move_past(rng, base.clone()).unwrap_or(base),
         5 => field_past(base.clone(), compiler).unwrap_or(base),
@@ -86,7 +86,7 @@ pub fn accepted(rng: &mut Random, choice: Choice) -> Sheet {
         if walk::size(&items) > 400 || text.len() > LONGEST {
             continue;
         }
-        let count = if rng.one_in(12) { rng.range(0, 64) } else { rng.range(0, 16) } as usize;
+        let count = if rng.one_in(12) { rng.within(0..=64) } else { rng.within(0..=16) };
         let Some(steps) = walk::met(&items, count) else { continue };
         if choice.plain && known_in_walk(choice, &items, &steps) {
             continue;
@@ -96,9 +96,9 @@ pub fn accepted(rng: &mut Random, choice: Choice) -> Sheet {
         if layout.narrowest > 255 || layout.records > 40 {
             continue;
         }
-        let slack = if rng.one_in(2) { 0 } else { rng.range(0, 20) };
+        let slack = if rng.one_in(2) { 0 } else { rng.within(0..=20) };
         let width = (layout.narrowest + slack).min(255);
-        let records = layout.records + if rng.one_in(2) { 0 } else { rng.range(1, 3) };
+        let records = layout.records + if rng.one_in(2) { 0 } else { rng.within(1..=3) };
         let mut area = Vec::new();
         let elements = elements(rng, &steps, &lengths, choice, &mut area);
         let sheet = Sheet { items, width, records, elements, area, aim: Aim::Accepted };
@@ -122,14 +122,14 @@ fn known_in_walk(choice: Choice, items: &[Item], steps: &[Met]) -> bool {
 
 /// A format; one that is not plain often has what the compiler is known to take otherwise.
 fn random_format(rng: &mut Random, choice: Choice) -> Vec<Item> {
-    let most = *rng.pick(&[3, 4, 6, 9, 12]);
+    let most = rng.pick(&[3, 4, 6, 9, 12]);
     let mut items = items(rng, 0, most);
     if choice.plain || rng.one_in(2) {
         return items;
     }
     match choice.compiler {
         Compiler::Gfortran => {
-            let at = rng.range(0, items.len() as u64) as usize;
+            let at = rng.below(items.len() + 1);
             let first = if rng.one_in(2) { Item::Skip(small(rng, 9)) } else { Item::Tab(small(rng, 20)) };
             items.splice(at..at, [first, Item::Tab(small(rng, 20))]);
         }
@@ -172,7 +172,7 @@ fn record_short(mut sheet: Sheet) -> Option<Sheet> {
 /// The same with a last item that goes past the record, where the walk meets it once, at its end.
 fn move_past(rng: &mut Random, mut sheet: Sheet) -> Option<Sheet> {
     let without = sheet.items.clone();
-    let far = sheet.width + rng.range(2, 30);
+    let far = sheet.width + rng.within(2..=30);
     sheet.items.push(if rng.one_in(2) { Item::Tab(far) } else { Item::Skip(far) });
     let steps = sheet.steps();
     let past = |step: &Met| matches!(step, Met::Tab(n) | Met::Skip(n) if *n == far);
@@ -197,12 +197,12 @@ pub fn loses_count(sheet: &Sheet, compiler: Compiler) -> bool {
 }
 
 fn items(rng: &mut Random, level: u64, most: u64) -> Vec<Item> {
-    let count = rng.range(1, most);
+    let count = rng.within(1..=most);
     (0..count).map(|_| item(rng, level, most)).collect()
 }
 
 fn item(rng: &mut Random, level: u64, most: u64) -> Item {
-    match rng.range(0, 99) {
+    match rng.below(100) {
         0..=14 if level < 4 => Item::Group { repeat: repeat(rng), items: items(rng, level + 1, most.min(4)) },
         15..=24 => Item::Skip(small(rng, 6)),
         25..=33 => Item::Tab(small(rng, 40)),
@@ -213,26 +213,26 @@ fn item(rng: &mut Random, level: u64, most: u64) -> Item {
 }
 
 fn repeat(rng: &mut Random) -> Option<u64> {
-    match rng.range(0, 9) {
+    match rng.below(10) {
         0..=6 => None,
         7 => Some(1),
-        _ if rng.one_in(10) => Some(rng.range(5, 64)),
-        _ => Some(rng.range(2, 4)),
+        _ if rng.one_in(10) => Some(rng.within(5..=64)),
+        _ => Some(rng.within(2..=4)),
     }
 }
 
 /// Mostly up to `usual`, sometimes far more.
 fn small(rng: &mut Random, usual: u64) -> u64 {
     let most = if rng.one_in(15) { usual * 5 } else { usual };
-    rng.range(1, most)
+    rng.within(1..=most)
 }
 
 fn field(rng: &mut Random) -> Field {
-    let w = if rng.one_in(15) { rng.range(1, 64) } else { rng.range(1, 12) };
-    match rng.range(0, 9) {
+    let w = if rng.one_in(15) { rng.within(1..=64) } else { rng.within(1..=12) };
+    match rng.below(10) {
         0..=2 => Field::Integer { w },
         3..=6 => {
-            let d = if rng.one_in(20) { rng.range(0, 9) } else { rng.range(0, w.saturating_sub(1).min(9)) };
+            let d = if rng.one_in(20) { rng.within(0..=9) } else { rng.within(0..=w.saturating_sub(1).min(9)) };
             Field::Decimal { w, d }
         }
         7 => Field::Logical { w: w.min(10) },
@@ -242,8 +242,8 @@ fn field(rng: &mut Random) -> Field {
 }
 
 fn literal(rng: &mut Random) -> Item {
-    let mark = *rng.pick(b"'\"");
+    let mark = rng.pick(b"'\"");
     let count = small(rng, 6);
-    let characters = (0..count).map(|_| if rng.one_in(8) { mark } else { rng.range(32, 126) as u8 }).collect();
+    let characters = (0..count).map(|_| if rng.one_in(8) { mark } else { rng.within(32..=126) }).collect();
     Item::Literal { mark, characters }
 }

@@ -15,7 +15,6 @@ mod format;
 mod generate;
 mod models;
 mod program;
-mod random;
 mod readings;
 mod report;
 mod run;
@@ -25,7 +24,6 @@ mod values;
 mod walk;
 
 use std::process::ExitCode;
-use std::time::{SystemTime, UNIX_EPOCH};
 
 use compiler::Compiler;
 use random::Random;
@@ -55,7 +53,7 @@ fn compare_all(name: &str, rest: &[String]) -> Result<(), String> {
     let compiler = Compiler::named(name).ok_or_else(|| format!("no compiler {name} here"))?;
     let number = |index: usize| rest.get(index).map(|text| text.parse::<u64>().map_err(|why| format!("{text}: {why}")));
     let sheets = number(0).transpose()?.unwrap_or(2000);
-    let seed = number(1).transpose()?.unwrap_or_else(clock);
+    let seed = number(1).transpose()?.unwrap_or_else(random::clock_seed);
     println!("{name}, seed {seed}");
     let mut rng = Random::new(seed);
     let folder = Folder::new()?;
@@ -65,10 +63,6 @@ fn compare_all(name: &str, rest: &[String]) -> Result<(), String> {
     written.print("written", examples);
     read.print("read", examples);
     written.finish().and(read.finish())
-}
-
-pub fn clock() -> u64 {
-    SystemTime::now().duration_since(UNIX_EPOCH).map_or(1, |time| time.as_nanos() as u64)
 }
 
 /// Batches until the library has accepted as many sheets as asked.

@@ -5,9 +5,9 @@ use crate::compiler::Compiler;
 use crate::format::Field;
 use crate::generate::{self, Sheet};
 use crate::models::{self, Foreseen};
-use crate::random::Random;
 use crate::values::Choice;
 use crate::walk::{Met, Place};
+use random::Random;
 
 #[derive(Clone, Copy, Debug, PartialEq, Eq)]
 pub enum Aim {
@@ -55,19 +55,19 @@ fn attempt(rng: &mut Random, compiler: Compiler, plain: bool) -> Reading {
     calls::write(sheet.width, &format, &sheet.elements, count, &sheet.area, &mut whole).expect("an accepted sheet");
     let fields = fields(&sheet);
     if !fields.is_empty() {
-        for _ in 0..*rng.pick(&[0, 1, 1, 2, 3, 6]) {
-            let (place, field) = *rng.pick(&fields);
+        for _ in 0..rng.pick(&[0, 1, 1, 2, 3, 6]) {
+            let (place, field) = rng.pick(&fields);
             damage(rng, field, field_of(&mut whole, &sheet, place));
         }
         if !plain {
-            let (place, field) = if rng.one_in(2) { fields[fields.len() - 1] } else { *rng.pick(&fields) };
+            let (place, field) = if rng.one_in(2) { fields[fields.len() - 1] } else { rng.pick(&fields) };
             odd(rng, field, field_of(&mut whole, &sheet, place));
         }
     }
     let literals = !plain && compiler == Compiler::Gfortran && rng.one_in(6);
     let (records, width) = (whole.clone(), sheet.width);
     let mut reading = Reading { sheet, whole, records, width, literals, aim: Aim::Fields };
-    match rng.range(0, 39) {
+    match rng.below(40) {
         0 if plain && compiler != Compiler::F2c => cut_record(&mut reading),
         1 if plain && !generate::loses_count(&reading.sheet, compiler) => cut_column(&mut reading),
         _ => {}
@@ -132,19 +132,19 @@ fn cut_column(reading: &mut Reading) {
 
 /// Damage that all take alike: still a field, or refused.
 fn damage(rng: &mut Random, field: Field, bytes: &mut [u8]) {
-    let at = rng.range(0, bytes.len() as u64 - 1) as usize;
+    let at = rng.below(bytes.len());
     match field {
-        Field::Logical { .. } => bytes[at] = *rng.pick(b"TTTFFF.. XY1*,"),
-        Field::Text { .. } => bytes[at] = rng.range(32, 126) as u8,
-        _ => match rng.range(0, 8) {
+        Field::Logical { .. } => bytes[at] = rng.pick(b"TTTFFF.. XY1*,"),
+        Field::Text { .. } => bytes[at] = rng.within(32..=126),
+        _ => match rng.below(9) {
             0 => move_blank(bytes, at),
             1 => zeros(bytes, b'0'),
             2 => plus(bytes),
             3 => move_point(rng, bytes),
-            4 => bytes[at] = *rng.pick(b"*ABCGHXZ/$"),
+            4 => bytes[at] = rng.pick(b"*ABCGHXZ/$"),
             5 => bytes.fill(b' '),
             6 => bytes[at] = b' ',
-            _ => bytes[at] = rng.range(48, 57) as u8,
+            _ => bytes[at] = rng.within(b'0'..=b'9'),
         },
     }
 }
@@ -176,7 +176,7 @@ fn plus(bytes: &mut [u8]) {
 }
 
 fn move_point(rng: &mut Random, bytes: &mut [u8]) {
-    let to = rng.range(0, bytes.len() as u64 - 1) as usize;
+    let to = rng.below(bytes.len());
     match bytes.iter().position(|&byte| byte == b'.') {
         Some(point) => bytes.swap(point, to),
         None => bytes[to] = b'.',
@@ -188,18 +188,18 @@ fn odd(rng: &mut Random, field: Field, bytes: &mut [u8]) {
     let width = bytes.len();
     let text: String = match field {
         Field::Logical { .. } => rng.pick(&["t", "f", ".t", ".fALSE.", "true"]).to_string(),
-        Field::Integer { .. } => match rng.range(0, 3) {
+        Field::Integer { .. } => match rng.below(4) {
             0 => rng.pick(&["-", "+"]).to_string(),
-            1 => format!("{},{}", rng.range(0, 99), rng.range(0, 9)),
-            _ => format!("{}{}", rng.range(1, 9), "0".repeat(18)),
+            1 => format!("{},{}", rng.within(0..=99), rng.within(0..=9)),
+            _ => format!("{}{}", rng.within(1..=9), "0".repeat(18)),
         },
-        Field::Decimal { .. } => match rng.range(0, 7) {
+        Field::Decimal { .. } => match rng.below(8) {
             0 => rng.pick(&["-", "+", ".", "-.", "+."]).to_string(),
-            1 => format!("{}E{}", rng.range(0, 99), rng.range(0, 9)),
-            2 => format!("{}.5{}{}", rng.range(0, 99), rng.pick(&["+", "-", "D-", "E+0", "d"]), rng.range(1, 9)),
+            1 => format!("{}E{}", rng.within(0..=99), rng.within(0..=9)),
+            2 => format!("{}.5{}{}", rng.within(0..=99), rng.pick(&["+", "-", "D-", "E+0", "d"]), rng.within(1..=9)),
             3 => rng.pick(&["INF", "NAN", "-INF"]).to_string(),
-            4 => format!("{},5", rng.range(0, 99)),
-            _ => format!(".{:010}", rng.range(1, 9_999_999_999)),
+            4 => format!("{},5", rng.within(0..=99)),
+            _ => format!(".{:010}", rng.within(1..=9_999_999_999u64)),
         },
         Field::Text { .. } => return,
     };

@@ -9,17 +9,17 @@ use crate::differences::Got;
 use crate::generate::{self, Sheet};
 use crate::models::FILL;
 use crate::program;
-use crate::random::Random;
 use crate::readings::{self, Reading};
 use crate::run::{self, Folder, Values, Written};
 use crate::BATCH;
+use random::Random;
 
 /// For each corruption how often it was tried and how often noticed.
 type Tally = BTreeMap<&'static str, (u64, u64)>;
 
 pub fn run(name: &str) -> Result<(), String> {
     let compiler = Compiler::named(name).ok_or_else(|| format!("no compiler {name} here"))?;
-    let seed = crate::clock();
+    let seed = random::clock_seed();
     println!("self-test with {name}, seed {seed}");
     let mut rng = Random::new(seed);
     let folder = Folder::new()?;

@@ -1,6 +1,7 @@
-//! Random numbers (splitmix64) and choices.
+//! Random numbers (splitmix64) and choices; a seed repeats a run.
 
 use std::ops::RangeInclusive;
+use std::time::{SystemTime, UNIX_EPOCH};
 
 pub struct Random(u64);
 
@@ -21,12 +22,21 @@ impl Random {
         (self.number() % end as u64) as usize
     }
 
-    pub fn within(&mut self, range: RangeInclusive<usize>) -> usize {
-        range.start() + self.below(range.end() - range.start() + 1)
+    /// A number of the range.
+    pub fn within<N: TryInto<u64> + TryFrom<u64>>(&mut self, range: RangeInclusive<N>) -> N {
+        let (low, high) = range.into_inner();
+        let [low, high] = [low, high].map(|end| end.try_into().ok().expect("a range from 0 or more"));
+        N::try_from(low + self.number() % (high - low + 1)).ok().expect("a number up to the range's end")
     }
 
+    /// True so many times in a hundred.
     pub fn chance(&mut self, percent: usize) -> bool {
         self.below(100) < percent
+    }
+
+    /// True once in `n` times.
+    pub fn one_in(&mut self, n: usize) -> bool {
+        self.below(n) == 0
     }
 
     pub fn pick<T: Copy>(&mut self, choices: &[T]) -> T {
@@ -42,22 +52,12 @@ impl Random {
     }
 
     pub fn printable(&mut self, length: usize) -> Vec<u8> {
-        (0..length).map(|_| self.within(32..=126) as u8).collect()
+        (0..length).map(|_| self.within(32..=126)).collect()
     }
 }
 
-/// The bytes with a few of them changed, taken out or put in; new bytes come
-/// mostly from the alphabet.
-pub fn damaged(random: &mut Random, mut bytes: Vec<u8>, alphabet: &[u8]) -> Vec<u8> {
-    for _ in 0..random.within(1..=3) {
-        let new = if random.chance(85) { random.pick(alphabet) } else { random.number() as u8 };
-        let at = random.below(bytes.len() + 1);
-        match random.below(8) {
-            0..=2 if at < bytes.len() => bytes[at] = new,
-            3..=4 if at < bytes.len() => drop(bytes.remove(at)),
-            5 => bytes.truncate(at),
-            _ => bytes.insert(at, new),
-        }
-    }
-    bytes
+/// A seed from the clock.
+pub fn clock_seed() -> u64 {
+    let now = SystemTime::now().duration_since(UNIX_EPOCH).expect("the clock stands after 1970");
+    now.as_nanos() as u64
 }
