@@ -8,6 +8,9 @@ ghost use Rattle.number.specs.Digits.{digitsOf};
 ghost use Rattle.field_written.specs.Numeral.{signBytes};
 ghost use Rattle.field_written.specs.Written.{minusIf};
 
+// 2^32
+const NARROW: u64 = 4_294_967_296;
+
 // A minus below zero, and no sign else.
 pub fn minus_if(negative: bool) -> Sign
     ensures { λ r. ⌜ r ≡ minusIf negative ⌝ }
@@ -31,7 +34,7 @@ pub fn put_sign(dst: &mut [u8], at: usize, sign: Sign)
     }
 }
 
-// The last k digits of m; answers the number that the digits before them make. Divisions of 32 bits are cheaper.
+// `put_digits` for a number of 32 bits, on which divisions are cheaper.
 fn put_narrow(dst: &mut [u8], at: usize, k: usize, m: u32) -> u32
     requires { ⌜ at + k ≤ length (now dst) ⌝ }
     ensures { λ r. ⌜ (now (dst .exit) ≡ splice (now (dst .entry)) at (digitsOf k m)) × (r ≡ m / 10 ^ k) ⌝ }
@@ -46,12 +49,12 @@ fn put_narrow(dst: &mut [u8], at: usize, k: usize, m: u32) -> u32
     rest
 }
 
-// The same for any m.
+// The last k digits of m; answers the number that the digits before them make.
 pub fn put_digits(dst: &mut [u8], at: usize, k: usize, m: u64) -> u64
     requires { ⌜ at + k ≤ length (now dst) ⌝ }
     ensures { λ r. ⌜ (now (dst .exit) ≡ splice (now (dst .entry)) at (digitsOf k m)) × (r ≡ m / 10 ^ k) ⌝ }
 {
-    if m < 4_294_967_296 {
+    if m < NARROW {
         return put_narrow(dst, at, k, m as u32) as u64;
     }
     let mut rest = m;

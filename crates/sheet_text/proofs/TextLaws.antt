@@ -26,7 +26,7 @@ use Rattle.sheet_walk.specs.declared.Refusal.{Refusal}
 use Rattle.sheet_walk.specs.declared.Refusal.the-variants.{RecordWidth, Format, Element}
 use Rattle.sheet_walk.specs.declared.Answer.{Answer}
 use Rattle.sheet_walk.specs.declared.Answer.the-variants.{Refused}
-use Rattle.sheet_write.specs.Writing.{Writing, accepts, refuses, checkFormat, writingOf, writing, answerOf, bufferOf, writeAnswer, writeBuffer}
+use Rattle.sheet_write.specs.Writing.{Writing, accepts, refuses, checkFormat, writingOf, writing, answerOf, writeAnswer, writeBuffer}
 use Rattle.sheet_write.specs.Parts.{Wrote}
 use Rattle.sheet_write.specs.Promises.{Call, becomes}
 use Rattle.sheet_write.proofs.Promises.{accepts-exactly, records-reached}

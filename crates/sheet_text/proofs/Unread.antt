@@ -2,8 +2,8 @@
 -- Assumes nothing.
 use mathlib.Core.Path.{_≡_, refl, sym, ap, _∙_}
 use mathlib.Core.Bool.{Bool, true, false, cond}
-use mathlib.Core.List.{List, [], _++_}
-use Prim.Native.Nat.{ℕ, _+_, _-_, _<_, _≤_}
+use mathlib.Core.List.{List, _++_}
+use Prim.Native.Nat.{ℕ, _+_, _-_, _<_}
 use native.Mathlib.Decide.{decLt}
 use native.Mathlib.Omega.{arith}
 use borrow.Author.Tests.{lt-ltb}
@@ -12,15 +12,13 @@ use lib.Seq.{take-all, length-take-le}
 use Rattle.format_grammar.specs.Check.{longestFormat, outcome, refused}
 use Rattle.format_grammar.specs.declared.FormatRefusal.the-variants.{Length}
 use Rattle.list_elements.specs.declared.Value.{Value}
-use Rattle.list_elements.specs.declared.ListCheck.{ListCheck}
 use Rattle.list_elements.specs.declared.ListCheck.the-variants.{Bad}
 use Rattle.sheet_walk.specs.Steps.{widthRight}
 use Rattle.sheet_walk.specs.declared.Refusal.the-variants.{RecordWidth, Format}
-use Rattle.sheet_write.specs.Writing.{Writing, accepts, refuses, writingOf}
+use Rattle.sheet_write.specs.Writing.{Writing, refuses, writingOf}
 use Rattle.list_text.specs.Lines.{firstLine, afterLine}
 use Rattle.list_text.specs.ListText.{lineValues, lineCheck}
 use Rattle.list_text.specs.Promises.{longestList}
-use Rattle.list_text.proofs.LineLaws.{line-short}
 use Rattle.list_text.proofs.Longest.{line-over, line-ended, after-long, digits-over, long-refused}
 use Rattle.sheet_text.specs.Input.{mostWidthDigits, widthOn, inputWidth, inputFormat, inputList}
 use Rattle.sheet_text.specs.Output.{outputOf}
