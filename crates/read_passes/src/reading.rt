@@ -52,6 +52,9 @@ pub fn read_pass(
                     }
                 }
             }
+            Cover::Moves(next) => {
+                c = next;
+            }
             Cover::Nothing => {
                 let turn = advance(words, back, part, kinds, rs, c);
                 match turn {

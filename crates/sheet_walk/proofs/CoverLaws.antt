@@ -1,6 +1,6 @@
 -- What a turn covers, from what the code's tests say.
 -- Assumes nothing.
-use mathlib.Core.Path.{_≡_, refl, sym, ap, _∙_}
+use mathlib.Core.Path.{_≡_, refl, sym, subst, _∙_}
 use mathlib.Core.Bool.{Bool, true, false, cond}
 use mathlib.Core.List.{List, map}
 use Prim.Native.Nat.{ℕ, zero, suc, _+_, _%_, _<_, _≤_}
@@ -16,9 +16,10 @@ use Rattle.list_elements.specs.Elements.{Kind}
 use Rattle.list_elements.specs.Apart.{kindFrom}
 use Rattle.sheet_walk.specs.Steps as steps
 use Rattle.sheet_walk.specs.Steps.{element, coverStep, fieldStep, xStep, tStep, nextRecord, hasField, endStep}
-use Rattle.sheet_walk.specs.Turns.{fieldKind, fieldColumns, elementKind, columnsFor, stepAnswer, onwardAnswer, sheetOf, turnOf, coverIn, coverOf}
+use Rattle.sheet_walk.specs.Turns.{fieldKind, fieldColumns, elementKind, columnsFor, stepAnswer, onwardAnswer, sheetOf, turnOf, coverIn, Seen}
 use Rattle.sheet_walk.specs.declared.Records.{Records}
 use Rattle.sheet_walk.specs.declared.State.{State}
+use Rattle.sheet_walk.specs.declared.Refusal.{Refusal}
 use Rattle.sheet_walk.specs.declared.Cursor.{Cursor}
 use Rattle.sheet_walk.specs.declared.Step.{Step}
 use Rattle.sheet_walk.specs.declared.Step.the-variants as answer
@@ -30,31 +31,33 @@ use Rattle.sheet_walk.proofs.ItemLaws.{mapped-more}
 use Rattle.sheet_walk.proofs.AnswerLaws.{suits-is, width-is}
 use Rattle.sheet_walk.proofs.TurnLaws.{turn-item, turn-end}
 
--- ---- a turn by what it covers
+-- ---- a turn by what `cover_at` tells of it
 
-pub covers-so : {a w : ℕ} {n : Cursor} (u : Turn) → cover.Columns a w n ≡ coverOf u → u ≡ turn.Covers a w n
-covers-so (turn.Goes m) e = let z : _≡_ {A = ℕ} 0 1 = cc in absurd (omega arith)
-covers-so {a} {w} {n} (turn.Covers b v m) e =
-    let p : b ≡ a = cc in
-    let q : v ≡ w = cc in
-    let r : m ≡ n = cc in
-    rw (p, q, r)
-covers-so (turn.Refused why) e = let z : _≡_ {A = ℕ} 0 1 = cc in absurd (omega arith)
-covers-so (turn.Ends k) e = let z : _≡_ {A = ℕ} 0 1 = cc in absurd (omega arith)
+pub covers-so : {a w : ℕ} {n : Cursor} {v : Cover} {u : Turn} → Seen v u → v ≡ cover.Columns a w n → u ≡ turn.Covers a w n
+covers-so {a} {w} {n} {v} {u} h e = subst (λ (x : Cover). Seen x u) e h
 
-pub covers-not : {a w : ℕ} {n : Cursor} {u : Turn} → cover.Nothing ≡ coverOf u → u ≡ turn.Covers a w n → ⊥
-covers-not {a} {w} {n} e g =
-    let f : cover.Nothing ≡ cover.Columns a w n = rw g at e in
-    let z : _≡_ {A = ℕ} 0 1 = cc in
-    omega arith
+pub moves-so : {n : Cursor} {v : Cover} {u : Turn} → Seen v u → v ≡ cover.Moves n → u ≡ turn.Goes n
+moves-so {n} {v} {u} h e = subst (λ (x : Cover). Seen x u) e h
+
+pub covers-not : {a w : ℕ} {n : Cursor} {v : Cover} {u : Turn} → Seen v u → v ≡ cover.Nothing → u ≡ turn.Covers a w n → ⊥
+covers-not {a} {w} {n} {v} {u} h e g =
+    let f : Seen cover.Nothing u = subst (λ (x : Cover). Seen x u) e h in
+    f a w n g
+
+pub refused-covers-not : {why : Refusal} (a w : ℕ) (n : Cursor) → turn.Refused why ≡ turn.Covers a w n → ⊥
+refused-covers-not a w n e = let z : _≡_ {A = ℕ} 0 1 = cc in omega arith
+
+-- what a step covers is seen of its turn
+seen-in : (s : State) (i : ℕ) (x : Step) → Seen (coverIn i x) (onwardAnswer s i x)
+seen-in s i (answer.Moves n) = λ a w m e. let z : _≡_ {A = ℕ} 0 1 = cc in omega arith
+seen-in s i (answer.Covers a w n) = refl
+seen-in s i (answer.Refused why) = λ a w m e. let z : _≡_ {A = ℕ} 0 1 = cc in omega arith
+seen-in s i answer.Ends = λ a w m e. let z : _≡_ {A = ℕ} 0 1 = cc in omega arith
+
+seen-so : (s : State) (i : ℕ) (x : Step) {v : Cover} → v ≡ coverIn i x → Seen v (onwardAnswer s i x)
+seen-so s i x {v} e = subst (λ (y : Cover). Seen y (onwardAnswer s i x)) (sym e) (seen-in s i x)
 
 -- ---- steps that cover nothing
-
-in-onward : (s : State) (i : ℕ) (x : Step) → coverIn i x ≡ coverOf (onwardAnswer s i x)
-in-onward s i (answer.Moves n) = refl
-in-onward s i (answer.Covers a w n) = refl
-in-onward s i (answer.Refused why) = refl
-in-onward s i answer.Ends = refl
 
 pub record Bare (i R : ℕ) (x : steps.Step) : Type 0 where
   pub is : cover.Nothing ≡ coverIn i (stepAnswer R x)
@@ -92,17 +95,20 @@ module _ (i R : ℕ) where
 
 -- ---- the code's answers
 
-module _ (t ws : List ℕ) (back : ℕ) (ks : List ℕ) (rs : Records) (c : Cursor) {r : Cover} where
-  pub cover-item : c .index < length ws → r ≡ coverIn (c .index + 1) (stepAnswer (rs .width) (steps.step (map kindFrom ks) rs (metOf t (getD ws (c .index) 0)) (c .state)))
-      → r ≡ coverOf (turnOf (sheetOf t ws back ks rs) back c)
-  cover-item h e = e ∙ in-onward (c .state) (c .index + 1) (stepAnswer (rs .width) (steps.step (map kindFrom ks) rs (metOf t (getD ws (c .index) 0)) (c .state))) ∙ ap coverOf (turn-item t ws back ks rs c h refl refl)
-
 module _ (t ws : List ℕ) (back : ℕ) (ks : List ℕ) (rs : Records) (c : Cursor) where
-  pub cover-end : length ws ≤ c .index → cover.Nothing ≡ coverOf (turnOf (sheetOf t ws back ks rs) back c)
+  pub seen-item : (r : Cover) → c .index < length ws → Seen r (onwardAnswer (c .state) (c .index + 1) (stepAnswer (rs .width) (steps.step (map kindFrom ks) rs (metOf t (getD ws (c .index) 0)) (c .state))))
+      → Seen r (turnOf (sheetOf t ws back ks rs) back c)
+  seen-item r h e = subst (λ (u : Turn). Seen r u) (turn-item t ws back ks rs c h refl refl) e
+
+  pub cover-item : (r : Cover) → c .index < length ws → r ≡ coverIn (c .index + 1) (stepAnswer (rs .width) (steps.step (map kindFrom ks) rs (metOf t (getD ws (c .index) 0)) (c .state)))
+      → Seen r (turnOf (sheetOf t ws back ks rs) back c)
+  cover-item r h e = seen-item r h (seen-so (c .state) (c .index + 1) (stepAnswer (rs .width) (steps.step (map kindFrom ks) rs (metOf t (getD ws (c .index) 0)) (c .state))) e)
+
+  pub cover-end : length ws ≤ c .index → Seen cover.Nothing (turnOf (sheetOf t ws back ks rs) back c)
   cover-end h =
-      end-bare back (rs .width) (map kindFrom ks) rs (drop back (map (metOf t) ws)) (c .state) .is
-      ∙ in-onward (c .state) back (stepAnswer (rs .width) (endStep (map kindFrom ks) rs (drop back (map (metOf t) ws)) (c .state)))
-      ∙ ap coverOf (turn-end t ws back ks rs c h refl refl)
+      let x = stepAnswer (rs .width) (endStep (map kindFrom ks) rs (drop back (map (metOf t) ws)) (c .state)) in
+      subst (λ (u : Turn). Seen cover.Nothing u) (turn-end t ws back ks rs c h refl refl)
+      (seen-so (c .state) back x (end-bare back (rs .width) (map kindFrom ks) rs (drop back (map (metOf t) ws)) (c .state) .is))
 
 -- ---- a field's word
 

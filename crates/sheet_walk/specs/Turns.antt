@@ -153,14 +153,14 @@ indexAfter h back c = cond (ltb (c .index) (length (h .items))) (c .index + 1) b
 abbrev pub turnOf : Sheet → ℕ → Cursor → Turn
 turnOf h back c = onwardAnswer (c .state) (indexAfter h back c) (stepAnswer (h .records .width) (stepAt h c))
 
--- ---- what a turn covers, and a step after which the next item is that of an index
+-- ---- what `cover_at` tells of a turn
 
-abbrev pub coverOf : Turn → Cover
-coverOf (turn.Goes n) = cover.Nothing
-coverOf (turn.Covers a w n) = cover.Columns a w n
-coverOf (turn.Refused why) = cover.Nothing
-coverOf (turn.Ends n) = cover.Nothing
+abbrev pub Seen : Cover → Turn → Type 0
+Seen (cover.Columns a w n) u = u ≡ turn.Covers a w n
+Seen (cover.Moves n) u = u ≡ turn.Goes n
+Seen cover.Nothing u = (a w : ℕ) (n : Cursor) → u ≡ turn.Covers a w n → ⊥
 
+-- what a step covers, after which the next item is that of an index
 abbrev pub coverIn : ℕ → Step → Cover
 coverIn i (answer.Moves n) = cover.Nothing
 coverIn i (answer.Covers a w n) = cover.Columns a w (cursor i n)

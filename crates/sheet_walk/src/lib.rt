@@ -69,13 +69,14 @@ pub enum Turn {
     },
 }
 
-// The columns that a turn covers, and the walk after it; or that it covers none.
+// The columns that a turn covers, or that it moves past an X, and the walk after it; or neither.
 pub enum Cover {
     Columns {
         at: usize,
         width: usize,
         next: Cursor,
     },
+    Moves(Cursor),
     Nothing,
 }
 

@@ -12,6 +12,7 @@ use format_words::KIND_A;
 use format_words::KIND_AW;
 use format_words::KIND_BASE;
 use format_words::KIND_LITERAL;
+use format_words::KIND_X;
 use format_words::second_of;
 use list_elements::KIND_TEXT;
 ghost use mathlib.Core.Path.{_≡_};
@@ -20,8 +21,8 @@ ghost use Prim.Native.Nat.{ℕ, _<_, _^_};
 ghost use lib.ListN.{length, drop};
 ghost use Rattle.format_words.specs.Words.{metOf};
 ghost use Rattle.format_run.specs.Runs.{RunWords};
-ghost use Rattle.sheet_walk.specs.Steps.{start, hasField, What, coverStep};
-ghost use Rattle.sheet_walk.specs.Turns.{Standing, elementKind, columnsFor, cursor, sheetOf, stepAnswer, onwardAnswer, turnOf, coverIn, coverOf};
+ghost use Rattle.sheet_walk.specs.Steps.{start, hasField, What, coverStep, xStep};
+ghost use Rattle.sheet_walk.specs.Turns.{Standing, elementKind, columnsFor, cursor, sheetOf, stepAnswer, onwardAnswer, turnOf, coverIn, Seen};
 
 // The cursor at the start of the walk.
 pub fn first_cursor() -> Cursor
@@ -118,10 +119,28 @@ fn columns(rs: Records, s: State, width: usize, taken: usize, index: usize) -> C
     Cover::Nothing
 }
 
-// What the turn of a cursor covers: most turns do, and this much of `advance` is small enough to stand in the loop of each pass.
+// nX: the walk moves past so many columns, if they are left, and goes on at the item of an index.
+fn move_past(rs: Records, s: State, n: usize, index: usize) -> Cover
+    requires { ⌜ Standing rs s × (n < 1024) ⌝ }
+    ensures { λ r. ⌜ Seen r (onwardAnswer s index (stepAnswer (rs .width) (xStep rs s n))) ⌝ }
+{
+    let after = s.column + n;
+    if after <= rs.width + 1 {
+        let state = State {
+            row: s.row,
+            column: after,
+            taken: s.taken,
+        };
+        return Cover::Moves(Cursor { index, state });
+    }
+    Cover::Nothing
+}
+
+// What the turn of a cursor covers, or that it moves past an X: most turns do, and this much of `advance` is small enough to stand
+// in the loop of each pass.
 pub fn cover_at(words: &[u64], kinds: &[u64], rs: Records, c: Cursor) -> Cover
     requires { ⌜ Standing rs (c .state) ⌝ }
-    ensures { λ r. ⌜ ((t : List ℕ) (back : ℕ) → RunWords (length t) (now (words .entry)) → r ≡ coverOf (turnOf (sheetOf t (now (words .entry)) back (now (kinds .entry)) rs) back c)) ⌝ }
+    ensures { λ r. ⌜ ((t : List ℕ) (back : ℕ) → RunWords (length t) (now (words .entry)) → Seen r (turnOf (sheetOf t (now (words .entry)) back (now (kinds .entry)) rs) back c)) ⌝ }
 {
     let i = c.index;
     let s = c.state;
@@ -130,6 +149,9 @@ pub fn cover_at(words: &[u64], kinds: &[u64], rs: Records, c: Cursor) -> Cover
     }
     let word = words[i];
     if KIND_AW < word % KIND_BASE {
+        if word % KIND_BASE == KIND_X {
+            return move_past(rs, s, (word / KIND_BASE % FIRST_BASE) as usize, i + 1);
+        }
         if word % KIND_BASE < KIND_LITERAL {
             return Cover::Nothing;
         }

@@ -47,6 +47,9 @@ pub fn check_pass(
                 }
                 c = next;
             }
+            Cover::Moves(next) => {
+                c = next;
+            }
             Cover::Nothing => {
                 let turn = advance(words, back, part, kinds, rs, c);
                 match turn {

@@ -61,6 +61,9 @@ pub fn lay_pass(
                     c = next;
                 }
             }
+            Cover::Moves(next) => {
+                c = next;
+            }
             Cover::Nothing => {
                 let turn = advance(words, back, part, kinds, rs, c);
                 match turn {

@@ -14,7 +14,7 @@ use Rattle.sheet_walk.specs.declared.Turn.{Turn}
 use Rattle.sheet_walk.specs.declared.Turn.the-variants as turn
 use Rattle.sheet_walk.specs.declared.Cursor.{Cursor}
 use Rattle.sheet_walk.specs.declared.Cover.the-variants as cover
-use Rattle.sheet_walk.proofs.CoverLaws.{covers-so, covers-not}
+use Rattle.sheet_walk.proofs.CoverLaws.{covers-so, moves-so, covers-not}
 use Rattle.sheet_walk.proofs.Passes as passes
 use Rattle.read_passes.specs.Passes.{TakenAs}
 use Rattle.read_passes.specs.declared.Taken.{Taken}
@@ -38,7 +38,14 @@ covered : (c : tie.After-cover-at Inv-loop μ-loop) {a w : ℕ} {n : Cursor} →
 covered c {a} {w} {n} e t l =
     passes.passed t (start c .args .words .now) (start c .args .back) (start c .args .kinds .now) (start c .args .rs) l (c .before .loop .c)
     (c .before .loop .inv .0 t l .stands) (turn.Covers a w n) (turn.Covers a w n)
-    (sym (covers-so _ (sym e ∙ c .cover-at .ensures t (start c .args .back) (l .sound)))) refl
+    (sym (covers-so (c .cover-at .ensures t (start c .args .back) (l .sound)) e)) refl
+
+moved : (c : tie.After-cover-at Inv-loop μ-loop) {n : Cursor} → c .cover-at .result ≡ cover.Moves n → (t : List ℕ) (l : Loaded t (start c .args .words .now) (start c .args .kinds .now) (start c .args .rs))
+    → passes.Passed t (start c .args .words .now) (start c .args .back) (start c .args .kinds .now) (start c .args .rs) l (c .before .loop .c) (turn.Goes n)
+moved c {n} e t l =
+    passes.passed t (start c .args .words .now) (start c .args .back) (start c .args .kinds .now) (start c .args .rs) l (c .before .loop .c)
+    (c .before .loop .inv .0 t l .stands) (turn.Goes n) (turn.Goes n)
+    (sym (moves-so (c .cover-at .ensures t (start c .args .back) (l .sound)) e)) refl
 
 known : (c : tie.After-advance Inv-loop μ-loop) (u : Turn) → c .advance .result ≡ u → (t : List ℕ) (l : Loaded t (start (c .before .before .before) .args .words .now) (start (c .before .before .before) .args .kinds .now) (start (c .before .before .before) .args .rs))
     → passes.Passed t (start (c .before .before .before) .args .words .now) (start (c .before .before .before) .args .back) (start (c .before .before .before) .args .kinds .now) (start (c .before .before .before) .args .rs) l (c .before .before .before .before .loop .c) u
@@ -54,7 +61,7 @@ uncovered : (c : tie.After-advance Inv-loop μ-loop) {at w : ℕ} {n : Cursor} �
 uncovered c e t l =
     let a = start (c .before .before .before) in
     let k = c .before .before .before .before in
-    covers-not (sym (c .before .enum-told3 .given .1) ∙ c .before .before .before .cover-at .ensures t (a .args .back) (l .sound))
+    covers-not (c .before .before .before .cover-at .ensures t (a .args .back) (l .sound)) (c .before .enum-told3 .given .1)
     (sym (c .advance .ensures t (l .sound) (k .before .before .has-field .ensures t)) ∙ e)
 
 -- what that of `take_field` says
@@ -142,6 +149,15 @@ loop-less-2 c = let k = c .before .before .before .before .before .before .befor
 loop-again-2 : tie.Need-loop-again-2 Inv-loop μ-loop
 loop-again-2 c = let k = c .before .before .before .before .before .before .before .before .before in let a = start k in let v = k .before .loop .inv in rw (from-bits (c .before .amount .given .0 .0) (c .known-told2 .given .0 .1)) ((λ t l. takes-element (a .args .back) l (a .args .records .now) (v .0 t l) (c .before .before .before .before .before .before .before .cover .given .0 .0) (c .before .before .before .before .before .before .before .cover .given .0 .1 .0) (c .before .before .before .before .before .before .before .cover .given .0 .1 .1 .0) (covered k (c .before .before .before .before .before .before .before .cover .given .1) t l) _ _ (took (c .before .before .before) (Element _ _) (c .before .amount .given .1) t l) (omega (arith, v .1, a .pre .2)) (omega (arith, v .2, a .pre .3))), length-set (k .before .loop .amounts) (k .before .loop .c .state .taken) (c .before .amount .given .0 .0) ∙ v .1, length-set (k .before .loop .details) (k .before .loop .c .state .taken) (c .before .amount .given .0 .1 .0) ∙ v .2)
 
+enum-known-cover-2 : tie.Need-enum-known-cover-2 Inv-loop μ-loop
+enum-known-cover-2 c = search needs
+
+loop-less-3 : tie.Need-loop-less-3 Inv-loop μ-loop
+loop-less-3 c = let k = c .before .before .before in let a = start k in let q = a .pre .0 in passes.fewer (q .t) (a .args .words .now) (a .args .back) (a .args .kinds .now) (a .args .rs) (q .loaded) (c .before .cover2 .given .0 .0) (k .before .loop .c) (moved k (c .before .cover2 .given .1) (q .t) (q .loaded) .2)
+
+loop-again-3 : tie.Need-loop-again-3 Inv-loop μ-loop
+loop-again-3 c = let k = c .before .before .before in let a = start k in ((λ t l. goes (a .args .back) l (a .args .records .now) (k .before .loop .inv .0 t l) _ (moved k (c .before .cover2 .given .1) t l)), k .before .loop .inv .1, k .before .loop .inv .2)
+
 enum-told-3 : tie.Need-enum-told-3 Inv-loop μ-loop
 enum-told-3 c = search needs
 
@@ -151,11 +167,11 @@ advance-requires c κs = let k = c .before .before in let a = start k in let q =
 enum-known-turn : tie.Need-enum-known-turn Inv-loop μ-loop
 enum-known-turn c = search needs
 
-loop-less-3 : tie.Need-loop-less-3 Inv-loop μ-loop
-loop-less-3 c = let k = c .before .before .before in let j = k .before .before .before in let a = start j in let q = a .pre .0 in passes.fewer (q .t) (a .args .words .now) (a .args .back) (a .args .kinds .now) (a .args .rs) (q .loaded) (c .before .turn .given .0 .0) (j .before .loop .c) (known k (turn.Goes _) (c .before .turn .given .1) (q .t) (q .loaded) .2)
+loop-less-4 : tie.Need-loop-less-4 Inv-loop μ-loop
+loop-less-4 c = let k = c .before .before .before in let j = k .before .before .before in let a = start j in let q = a .pre .0 in passes.fewer (q .t) (a .args .words .now) (a .args .back) (a .args .kinds .now) (a .args .rs) (q .loaded) (c .before .turn .given .0 .0) (j .before .loop .c) (known k (turn.Goes _) (c .before .turn .given .1) (q .t) (q .loaded) .2)
 
-loop-again-3 : tie.Need-loop-again-3 Inv-loop μ-loop
-loop-again-3 c = let k = c .before .before .before in let j = k .before .before .before in let a = start j in ((λ t l. goes (a .args .back) l (a .args .records .now) (j .before .loop .inv .0 t l) _ (known k (turn.Goes _) (c .before .turn .given .1) t l)), j .before .loop .inv .1, j .before .loop .inv .2)
+loop-again-4 : tie.Need-loop-again-4 Inv-loop μ-loop
+loop-again-4 c = let k = c .before .before .before in let j = k .before .before .before in let a = start j in ((λ t l. goes (a .args .back) l (a .args .records .now) (j .before .loop .inv .0 t l) _ (known k (turn.Goes _) (c .before .turn .given .1) t l)), j .before .loop .inv .1, j .before .loop .inv .2)
 
 enum-told-4 : tie.Need-enum-told-4 Inv-loop μ-loop
 enum-told-4 c = search needs
@@ -221,11 +237,14 @@ read-pass-spec =
     slice-write-details
     loop-less-2
     loop-again-2
+    enum-known-cover-2
+    loop-less-3
+    loop-again-3
     enum-told-3
     advance-requires
     enum-known-turn
-    loop-less-3
-    loop-again-3
+    loop-less-4
+    loop-again-4
     enum-told-4
     same-length-3
     same-length-4

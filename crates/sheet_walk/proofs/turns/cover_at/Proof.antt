@@ -6,13 +6,14 @@ use Prim.Native.Nat.{_+_, _<_}
 use native.Mathlib.Omega.{arith}
 use lib.ListN.{length, getD}
 use Rattle.format_words.specs.Words.{kindOf}
-use Rattle.format_words.proofs.WordKinds.{is-literal}
+use Rattle.format_words.proofs.WordKinds.{is-X, is-literal}
 use Rattle.list_elements.specs.Apart.{kindFrom}
 use Rattle.sheet_walk.specs.Steps.{element, literal, step}
 use Rattle.sheet_walk.specs.Turns.{elementKind, coverIn}
+use Rattle.sheet_walk.specs.declared.Cover.the-variants as cover
 use Rattle.sheet_walk.proofs.ItemLaws.{word-at, literal-length}
 use Rattle.sheet_walk.proofs.AnswerLaws.{field-refused, field-ends}
-use Rattle.sheet_walk.proofs.CoverLaws.{cover-item, cover-end, moves-bare, field-word, field-step}
+use Rattle.sheet_walk.proofs.CoverLaws.{seen-item, cover-item, cover-end, moves-bare, field-word, field-step}
 use borrow.Author.Needs.{needs}
 use Rattle.sheet_walk.proofs.turns.cover_at.Statement.{statement}
 use Rattle.sheet_walk.proofs.turns.cover_at.Tie as tie
@@ -26,8 +27,18 @@ mul-word c = search needs
 shared-slice-read-word : tie.Need-shared-slice-read-word
 shared-slice-read-word c = search needs
 
+add-move-past : tie.Need-add-move-past
+add-move-past c = search needs
+
+move-past-requires : tie.Need-move-past-requires
+move-past-requires c κs = search needs
+
 returns-2 : tie.Need-returns-2
-returns-2 c = λ t back h. let a = c .before .before .before .before .before .before .before in cover-item t (a .args .words .now) back (a .args .kinds .now) (a .args .rs) (a .args .c) (omega (arith, c .before .before .before .if1 .left)) (moves-bare (a .args .c .index + 1) (a .args .rs .width) (map kindFrom (a .args .kinds .now)) (a .args .rs) t (getD (a .args .words .now) (a .args .c .index) 0) (a .args .c .state) (c .before .if2 .taken) (c .if3 .taken) .is)
+unfolding step
+returns-2 c = λ t back h. let a = c .before .before .before .before .before .before .before .before in let i : a .args .c .index < length (a .args .words .now) = omega (arith, c .before .before .before .before .if1 .left) in seen-item t (a .args .words .now) back (a .args .kinds .now) (a .args .rs) (a .args .c) (c .move-past .result) i (rw (is-X t (getD (a .args .words .now) (a .args .c .index) 0) (c .before .if3 .taken)) (c .move-past .ensures))
+
+returns-3 : tie.Need-returns-3
+returns-3 c = λ t back h. let a = c .before .before .before .before .before .before .before .before in let i : a .args .c .index < length (a .args .words .now) = omega (arith, c .before .before .before .before .if1 .left) in cover-item t (a .args .words .now) back (a .args .kinds .now) (a .args .rs) (a .args .c) cover.Nothing i (moves-bare (a .args .c .index + 1) (a .args .rs .width) (map kindFrom (a .args .kinds .now)) (a .args .rs) t (getD (a .args .words .now) (a .args .c .index) 0) (a .args .c .state) (c .before .before .if2 .taken) (c .if4 .taken) .is)
 
 second-of-requires : tie.Need-second-of-requires
 second-of-requires c κs = search needs
@@ -38,26 +49,26 @@ add-columns c = search needs
 columns-requires : tie.Need-columns-requires
 columns-requires c κs = search needs
 
-returns-3 : tie.Need-returns-3
-unfolding step
-returns-3 c = λ t back h. let a = c .before .before .before .before .before .before .before .before .before in let i : a .args .c .index < length (a .args .words .now) = omega (arith, c .before .before .before .before .before .if1 .left) in let k : 7 < kindOf (getD (a .args .words .now) (a .args .c .index) 0) = omega (arith, c .before .before .if3 .left) in cover-item t (a .args .words .now) back (a .args .kinds .now) (a .args .rs) (a .args .c) i (rw (is-literal t (getD (a .args .words .now) (a .args .c .index) 0) k, literal-length t (getD (a .args .words .now) (a .args .c .index) 0) (word-at (length t) (a .args .words .now) (a .args .c .index) h i) k, ← c .before .second-of .ensures) (c .columns .ensures (literal _)))
-
 returns-4 : tie.Need-returns-4
 unfolding step
-returns-4 c = λ t back h. let a = c .before .before .before .before .before .before .before in let q = field-word t (getD (a .args .words .now) (a .args .c .index) 0) (omega (arith, c .before .if2 .left)) in cover-item t (a .args .words .now) back (a .args .kinds .now) (a .args .rs) (a .args .c) (omega (arith, c .before .before .before .if1 .left)) (rw (q .is) (ap (coverIn (a .args .c .index + 1)) (field-ends (a .args .rs) (a .args .c .state) (a .args .kinds .now) _ _ (q .f) refl refl (c .if4 .taken))))
+returns-4 c = λ t back h. let a = c .before .before .before .before .before .before .before .before .before .before in let i : a .args .c .index < length (a .args .words .now) = omega (arith, c .before .before .before .before .before .before .if1 .left) in let k : 7 < kindOf (getD (a .args .words .now) (a .args .c .index) 0) = omega (arith, c .before .before .if4 .left) in cover-item t (a .args .words .now) back (a .args .kinds .now) (a .args .rs) (a .args .c) (c .columns .result) i (rw (is-literal t (getD (a .args .words .now) (a .args .c .index) 0) k, literal-length t (getD (a .args .words .now) (a .args .c .index) 0) (word-at (length t) (a .args .words .now) (a .args .c .index) h i) k, ← c .before .second-of .ensures) (c .columns .ensures (literal _)))
 
-mul-if5 : tie.Need-mul-if5
-mul-if5 c = search needs
+returns-5 : tie.Need-returns-5
+unfolding step
+returns-5 c = λ t back h. let a = c .before .before .before .before .before .before .before in let i : a .args .c .index < length (a .args .words .now) = omega (arith, c .before .before .before .if1 .left) in let q = field-word t (getD (a .args .words .now) (a .args .c .index) 0) (omega (arith, c .before .if2 .left)) in cover-item t (a .args .words .now) back (a .args .kinds .now) (a .args .rs) (a .args .c) cover.Nothing i (rw (q .is) (ap (coverIn (a .args .c .index + 1)) (field-ends (a .args .rs) (a .args .c .state) (a .args .kinds .now) _ _ (q .f) refl refl (c .if5 .taken))))
 
-shared-slice-read-if5 : tie.Need-shared-slice-read-if5
-shared-slice-read-if5 c = search needs
+mul-if6 : tie.Need-mul-if6
+mul-if6 c = search needs
+
+shared-slice-read-if6 : tie.Need-shared-slice-read-if6
+shared-slice-read-if6 c = search needs
 
 element-kind-requires : tie.Need-element-kind-requires
 element-kind-requires c κs = search needs
 
-returns-5 : tie.Need-returns-5
+returns-6 : tie.Need-returns-6
 unfolding step
-returns-5 c = λ t back h. let a = c .before .before .before .before .before .before .before .before .before .before in let q = field-word t (getD (a .args .words .now) (a .args .c .index) 0) (omega (arith, c .before .before .before .before .if2 .left)) in cover-item t (a .args .words .now) back (a .args .kinds .now) (a .args .rs) (a .args .c) (omega (arith, c .before .before .before .before .before .before .if1 .left)) (rw (q .is) (ap (coverIn (a .args .c .index + 1)) (field-refused (a .args .rs) (a .args .c .state) (a .args .kinds .now) (elementKind (getD (a .args .words .now) (a .args .c .index) 0)) _ (q .f) (q .kind) refl (omega (arith, c .before .before .before .if4 .left)) (λ e. c .if5 .taken (e ∙ sym (c .before .element-kind .ensures))))))
+returns-6 c = λ t back h. let a = c .before .before .before .before .before .before .before .before .before .before in let i : a .args .c .index < length (a .args .words .now) = omega (arith, c .before .before .before .before .before .before .if1 .left) in let q = field-word t (getD (a .args .words .now) (a .args .c .index) 0) (omega (arith, c .before .before .before .before .if2 .left)) in cover-item t (a .args .words .now) back (a .args .kinds .now) (a .args .rs) (a .args .c) cover.Nothing i (rw (q .is) (ap (coverIn (a .args .c .index + 1)) (field-refused (a .args .rs) (a .args .c .state) (a .args .kinds .now) (elementKind (getD (a .args .words .now) (a .args .c .index) 0)) _ (q .f) (q .kind) refl (omega (arith, c .before .before .before .if5 .left)) (λ e. c .if6 .taken (e ∙ sym (c .before .element-kind .ensures))))))
 
 mul-field-columns : tie.Need-mul-field-columns
 mul-field-columns c = search needs
@@ -77,9 +88,9 @@ add-columns-3 c = search needs
 columns-requires-2 : tie.Need-columns-requires-2
 columns-requires-2 c κs = search needs
 
-returns-6 : tie.Need-returns-6
+returns-7 : tie.Need-returns-7
 unfolding step
-returns-6 c = λ t back h. let a = c .before .before .before .before .before .before .before .before .before .before .before .before .before in let q = field-word t (getD (a .args .words .now) (a .args .c .index) 0) (omega (arith, c .before .before .before .before .before .before .before .if2 .left)) in cover-item t (a .args .words .now) back (a .args .kinds .now) (a .args .rs) (a .args .c) (omega (arith, c .before .before .before .before .before .before .before .before .before .if1 .left)) (rw (q .is, field-step (a .args .rs) (a .args .c .state) (a .args .kinds .now) (q .f) (q .kind) (q .columns _ ∙ sym (c .before .field-columns .ensures)) (omega (arith, c .before .before .before .before .before .before .if4 .left)) (c .before .before .before .if5 .left ∙ c .before .before .before .before .element-kind .ensures)) (c .columns2 .ensures (element _ (q .f))))
+returns-7 c = λ t back h. let a = c .before .before .before .before .before .before .before .before .before .before .before .before .before in let i : a .args .c .index < length (a .args .words .now) = omega (arith, c .before .before .before .before .before .before .before .before .before .if1 .left) in let q = field-word t (getD (a .args .words .now) (a .args .c .index) 0) (omega (arith, c .before .before .before .before .before .before .before .if2 .left)) in cover-item t (a .args .words .now) back (a .args .kinds .now) (a .args .rs) (a .args .c) (c .columns2 .result) i (rw (q .is, field-step (a .args .rs) (a .args .c .state) (a .args .kinds .now) (q .f) (q .kind) (q .columns _ ∙ sym (c .before .field-columns .ensures)) (omega (arith, c .before .before .before .before .before .before .if5 .left)) (c .before .before .before .if6 .left ∙ c .before .before .before .before .element-kind .ensures)) (c .columns2 .ensures (element _ (q .f))))
 
 pub cover-at-spec : {M : Type 1} → statement M
 cover-at-spec =
@@ -88,20 +99,23 @@ cover-at-spec =
     returns
     mul-word
     shared-slice-read-word
+    add-move-past
+    move-past-requires
     returns-2
+    returns-3
     second-of-requires
     add-columns
     columns-requires
-    returns-3
     returns-4
-    mul-if5
-    shared-slice-read-if5
-    element-kind-requires
     returns-5
+    mul-if6
+    shared-slice-read-if6
+    element-kind-requires
+    returns-6
     mul-field-columns
     shared-slice-read-field-columns
     field-columns-requires
     add-columns-2
     add-columns-3
     columns-requires-2
-    returns-6)
+    returns-7)

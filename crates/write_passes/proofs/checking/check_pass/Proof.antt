@@ -11,7 +11,7 @@ use Rattle.sheet_walk.specs.declared.Turn.{Turn}
 use Rattle.sheet_walk.specs.declared.Turn.the-variants as turn
 use Rattle.sheet_walk.specs.declared.Cursor.{Cursor}
 use Rattle.sheet_walk.specs.declared.Cover.the-variants as cover
-use Rattle.sheet_walk.proofs.CoverLaws.{covers-so, covers-not}
+use Rattle.sheet_walk.proofs.CoverLaws.{covers-so, moves-so, covers-not}
 use Rattle.sheet_walk.proofs.Passes.{wordTurns, standing, first-stands, first-walk, Passed, passed, fewer}
 use Rattle.write_passes.specs.Placed.{judged}
 use Rattle.write_passes.specs.Passes.{Ready, endingOf}
@@ -38,7 +38,14 @@ covered : (c : tie.After-cover-at Inv-loop μ-loop) {at w : ℕ} {n : Cursor} �
 covered c {at} {w} {n} e t area vs r =
     passed t (start c .args .words .now) (start c .args .back) (start c .args .kinds .now) (start c .args .rs) (r .loaded) (c .before .loop .c)
     (c .before .loop .inv t area vs r .stands) (turn.Covers at w n) (turn.Covers at w n)
-    (sym (covers-so _ (sym e ∙ c .cover-at .ensures t (start c .args .back) (r .loaded .sound)))) refl
+    (sym (covers-so (c .cover-at .ensures t (start c .args .back) (r .loaded .sound)) e)) refl
+
+moved : (c : tie.After-cover-at Inv-loop μ-loop) {n : Cursor} → c .cover-at .result ≡ cover.Moves n → (t area : List ℕ) (vs : List Value) (r : ReadyAt c t area vs)
+    → Passed t (start c .args .words .now) (start c .args .back) (start c .args .kinds .now) (start c .args .rs) (r .loaded) (c .before .loop .c) (turn.Goes n)
+moved c {n} e t area vs r =
+    passed t (start c .args .words .now) (start c .args .back) (start c .args .kinds .now) (start c .args .rs) (r .loaded) (c .before .loop .c)
+    (c .before .loop .inv t area vs r .stands) (turn.Goes n) (turn.Goes n)
+    (sym (moves-so (c .cover-at .ensures t (start c .args .back) (r .loaded .sound)) e)) refl
 
 known : (c : tie.After-advance Inv-loop μ-loop) (u : Turn) → c .advance .result ≡ u → (t area : List ℕ) (vs : List Value) (r : ReadyAt (c .before .before .before) t area vs)
     → Passed t (start (c .before .before .before) .args .words .now) (start (c .before .before .before) .args .back) (start (c .before .before .before) .args .kinds .now) (start (c .before .before .before) .args .rs) (r .loaded) (c .before .before .before .before .loop .c) u
@@ -53,7 +60,7 @@ uncovered : (c : tie.After-advance Inv-loop μ-loop) {at w : ℕ} {n : Cursor} �
 uncovered c e t area vs r =
     let a = start (c .before .before .before) in
     let l = c .before .before .before .before in
-    covers-not (sym (c .before .enum-told .given .1) ∙ c .before .before .before .cover-at .ensures t (a .args .back) (r .loaded .sound))
+    covers-not (c .before .before .before .cover-at .ensures t (a .args .back) (r .loaded .sound)) (c .before .enum-told .given .1)
     (sym (c .advance .ensures t (r .loaded .sound) (l .before .before .has-field .ensures t)) ∙ e)
 
 has-field-requires : tie.Need-has-field-requires Inv-loop μ-loop
@@ -89,6 +96,15 @@ loop-less c = let k = c .before .before .before .before .before .before .before 
 loop-again : tie.Need-loop-again Inv-loop μ-loop
 loop-again c = λ t area vs r. let k = c .before .before .before .before .before .before .before in let a = start k in let u = k .before .loop .c in let n = covered k (c .before .before .before .before .before .cover .given .1) t area vs r in let e = put-small vs (n .0) _ (metOf t (getD (a .args .words .now) (u .index) 0)) (u .state .taken) (what-is (a .args .back) r u (n .0) _ (n .4) (n .5)) (sym (c .before .too-large .ensures t area vs (a .args .kinds .now) (n .0 .width) (placeable (a .args .back) r u (n .0) _ (n .4) (n .5))) ∙ c .if1 .left) in record { stands = n .2; left = sym e ∙ sym (ap (judged vs) (n .1)) ∙ k .before .loop .inv t area vs r .left }
 
+enum-known-cover-2 : tie.Need-enum-known-cover-2 Inv-loop μ-loop
+enum-known-cover-2 c = search needs
+
+loop-less-2 : tie.Need-loop-less-2 Inv-loop μ-loop
+loop-less-2 c = let k = c .before .before .before in let a = start k in let q = a .pre in fewer (q .t) (a .args .words .now) (a .args .back) (a .args .kinds .now) (a .args .rs) (q .ready .loaded) (c .before .cover2 .given .0 .0) (k .before .loop .c) (moved k (c .before .cover2 .given .1) (q .t) (q .area) (q .vs) (q .ready) .2)
+
+loop-again-2 : tie.Need-loop-again-2 Inv-loop μ-loop
+loop-again-2 c = λ t area vs r. let k = c .before .before .before in let n = moved k (c .before .cover2 .given .1) t area vs r in record { stands = n .1; left = sym (ap (judged vs) (n .0)) ∙ k .before .loop .inv t area vs r .left }
+
 enum-told : tie.Need-enum-told Inv-loop μ-loop
 enum-told c = search needs
 
@@ -98,11 +114,11 @@ advance-requires c κs = let k = c .before .before in let a = start k in let q =
 enum-known-turn : tie.Need-enum-known-turn Inv-loop μ-loop
 enum-known-turn c = search needs
 
-loop-less-2 : tie.Need-loop-less-2 Inv-loop μ-loop
-loop-less-2 c = let k = c .before .before .before in let j = k .before .before .before in let a = start j in let q = a .pre in fewer (q .t) (a .args .words .now) (a .args .back) (a .args .kinds .now) (a .args .rs) (q .ready .loaded) (c .before .turn .given .0 .0) (j .before .loop .c) (known k (turn.Goes _) (c .before .turn .given .1) (q .t) (q .area) (q .vs) (q .ready) .2)
+loop-less-3 : tie.Need-loop-less-3 Inv-loop μ-loop
+loop-less-3 c = let k = c .before .before .before in let j = k .before .before .before in let a = start j in let q = a .pre in fewer (q .t) (a .args .words .now) (a .args .back) (a .args .kinds .now) (a .args .rs) (q .ready .loaded) (c .before .turn .given .0 .0) (j .before .loop .c) (known k (turn.Goes _) (c .before .turn .given .1) (q .t) (q .area) (q .vs) (q .ready) .2)
 
-loop-again-2 : tie.Need-loop-again-2 Inv-loop μ-loop
-loop-again-2 c = λ t area vs r. let k = c .before .before .before in let j = k .before .before .before in let n = known k (turn.Goes _) (c .before .turn .given .1) t area vs r in record { stands = n .1; left = sym (ap (judged vs) (n .0)) ∙ j .before .loop .inv t area vs r .left }
+loop-again-3 : tie.Need-loop-again-3 Inv-loop μ-loop
+loop-again-3 c = λ t area vs r. let k = c .before .before .before in let j = k .before .before .before in let n = known k (turn.Goes _) (c .before .turn .given .1) t area vs r in record { stands = n .1; left = sym (ap (judged vs) (n .0)) ∙ j .before .loop .inv t area vs r .left }
 
 enum-told-2 : tie.Need-enum-told-2 Inv-loop μ-loop
 enum-told-2 c = search needs
@@ -141,11 +157,14 @@ check-pass-spec =
     returns
     loop-less
     loop-again
+    enum-known-cover-2
+    loop-less-2
+    loop-again-2
     enum-told
     advance-requires
     enum-known-turn
-    loop-less-2
-    loop-again-2
+    loop-less-3
+    loop-again-3
     enum-told-2
     returns-2
     enum-known-turn-2

@@ -20,7 +20,7 @@ use Rattle.sheet_walk.specs.declared.Turn.{Turn}
 use Rattle.sheet_walk.specs.declared.Turn.the-variants as turn
 use Rattle.sheet_walk.proofs.TurnLaws.{walkAt}
 use Rattle.sheet_walk.specs.declared.Cover.the-variants as cover
-use Rattle.sheet_walk.proofs.CoverLaws.{covers-so, covers-not}
+use Rattle.sheet_walk.proofs.CoverLaws.{covers-so, moves-so, covers-not}
 use Rattle.sheet_walk.proofs.Passes as passes
 use Rattle.write_passes.specs.Placed.{charactersOf, characters, starredOf, starredIn, judged}
 use Rattle.write_passes.specs.Passes.{Passed, Placed}
@@ -52,7 +52,16 @@ covered c {a} {w} {n} e vs q =
     let t = start c .args .chars .now in
     passes.passed t (start c .args .words .now) (start c .args .back) (start c .args .kinds .now) (start c .args .rs) (q .ready .loaded) (c .before .loop .c)
     (c .before .loop .inv .0 vs q .stands) (turn.Covers a w n) (turn.Covers a w n)
-    (sym (covers-so _ (sym e ∙ c .cover-at .ensures t (start c .args .back) (q .ready .loaded .sound)))) refl
+    (sym (covers-so (c .cover-at .ensures t (start c .args .back) (q .ready .loaded .sound)) e)) refl
+
+moved : (c : tie.After-cover-at Inv-loop μ-loop) {n : Cursor} → c .cover-at .result ≡ cover.Moves n → (vs : List Value) (q : Accepted c vs)
+    → passes.Passed (start c .args .chars .now) (start c .args .words .now) (start c .args .back) (start c .args .kinds .now) (start c .args .rs) (q .ready .loaded)
+    (c .before .loop .c) (turn.Goes n)
+moved c {n} e vs q =
+    let t = start c .args .chars .now in
+    passes.passed t (start c .args .words .now) (start c .args .back) (start c .args .kinds .now) (start c .args .rs) (q .ready .loaded) (c .before .loop .c)
+    (c .before .loop .inv .0 vs q .stands) (turn.Goes n) (turn.Goes n)
+    (sym (moves-so (c .cover-at .ensures t (start c .args .back) (q .ready .loaded .sound)) e)) refl
 
 known : (c : tie.After-advance Inv-loop μ-loop) (u : Turn) → c .advance .result ≡ u → (vs : List Value) (q : Accepted (c .before .before .before) vs)
     → passes.Passed (start (c .before .before .before) .args .chars .now) (start (c .before .before .before) .args .words .now) (start (c .before .before .before) .args .back) (start (c .before .before .before) .args .kinds .now) (start (c .before .before .before) .args .rs) (q .ready .loaded)
@@ -70,7 +79,7 @@ uncovered c e vs q =
     let a = start (c .before .before .before) in
     let l = c .before .before .before .before in
     let t = a .args .chars .now in
-    covers-not (sym (c .before .enum-told .given .1) ∙ c .before .before .before .cover-at .ensures t (a .args .back) (q .ready .loaded .sound))
+    covers-not (c .before .before .before .cover-at .ensures t (a .args .back) (q .ready .loaded .sound)) (c .before .enum-told .given .1)
     (sym (c .advance .ensures t (q .ready .loaded .sound) (l .before .before .has-field .ensures t)) ∙ e)
 
 -- the word of the next item, its element, and the walk from a cursor on
@@ -162,6 +171,15 @@ loop-less-2 c = let k = c .before .before .before .before .before .before .befor
 loop-again-2 : tie.Need-loop-again-2 Inv-loop μ-loop
 loop-again-2 c = let k = c .before .before .before .before .before .before .before .before .before .before in (goes-on k (c .before .before .before .before .before .before .before .before .cover .given .1) (c .before .before .before .put .result) (c .before .before .before .put .ensures .0) (c .before .before .before .put .ensures .1) (rw (c .if1 .left) (omega arith)), c .before .before .before .put .kept .0 ∙ k .before .loop .inv .1)
 
+enum-known-cover-2 : tie.Need-enum-known-cover-2 Inv-loop μ-loop
+enum-known-cover-2 c = search needs
+
+loop-less-3 : tie.Need-loop-less-3 Inv-loop μ-loop
+loop-less-3 c = let k = c .before .before .before in let a = start k in let q = a .pre .1 in passes.fewer (a .args .chars .now) (a .args .words .now) (a .args .back) (a .args .kinds .now) (a .args .rs) (q .passed .ready .loaded) (c .before .cover2 .given .0 .0) (k .before .loop .c) (moved k (c .before .cover2 .given .1) (q .vs) (q .passed) .2)
+
+loop-again-3 : tie.Need-loop-again-3 Inv-loop μ-loop
+loop-again-3 c = let k = c .before .before .before in let a = start k in ((λ vs q. let n = moved k (c .before .cover2 .given .1) vs q in let l = k .before .loop .inv .0 vs q in record { stands = n .1; accepts = sym (ap (judged vs) (n .0)) ∙ l .accepts; bytes = sym (ap (λ (x : Trace). laid (a .args .rs .width) (characters (a .args .area .now) vs) x (k .before .loop .dst)) (n .0)) ∙ l .bytes; stars = sym (ap (λ (x : Trace). k .before .loop .starred + starredIn vs x) (n .0)) ∙ l .stars }), k .before .loop .inv .1)
+
 enum-told : tie.Need-enum-told Inv-loop μ-loop
 enum-told c = search needs
 
@@ -171,11 +189,11 @@ advance-requires c κs = let k = c .before .before in let a = start k in let q =
 enum-known-turn : tie.Need-enum-known-turn Inv-loop μ-loop
 enum-known-turn c = search needs
 
-loop-less-3 : tie.Need-loop-less-3 Inv-loop μ-loop
-loop-less-3 c = let k = c .before .before .before in let j = k .before .before .before in let a = start j in let q = a .pre .1 in passes.fewer (a .args .chars .now) (a .args .words .now) (a .args .back) (a .args .kinds .now) (a .args .rs) (q .passed .ready .loaded) (c .before .turn .given .0 .0) (j .before .loop .c) (known k (turn.Goes _) (c .before .turn .given .1) (q .vs) (q .passed) .2)
+loop-less-4 : tie.Need-loop-less-4 Inv-loop μ-loop
+loop-less-4 c = let k = c .before .before .before in let j = k .before .before .before in let a = start j in let q = a .pre .1 in passes.fewer (a .args .chars .now) (a .args .words .now) (a .args .back) (a .args .kinds .now) (a .args .rs) (q .passed .ready .loaded) (c .before .turn .given .0 .0) (j .before .loop .c) (known k (turn.Goes _) (c .before .turn .given .1) (q .vs) (q .passed) .2)
 
-loop-again-3 : tie.Need-loop-again-3 Inv-loop μ-loop
-loop-again-3 c = let k = c .before .before .before in let j = k .before .before .before in let a = start j in ((λ vs q. let n = known k (turn.Goes _) (c .before .turn .given .1) vs q in let l = j .before .loop .inv .0 vs q in record { stands = n .1; accepts = sym (ap (judged vs) (n .0)) ∙ l .accepts; bytes = sym (ap (λ (x : Trace). laid (a .args .rs .width) (characters (a .args .area .now) vs) x (j .before .loop .dst)) (n .0)) ∙ l .bytes; stars = sym (ap (λ (x : Trace). j .before .loop .starred + starredIn vs x) (n .0)) ∙ l .stars }), j .before .loop .inv .1)
+loop-again-4 : tie.Need-loop-again-4 Inv-loop μ-loop
+loop-again-4 c = let k = c .before .before .before in let j = k .before .before .before in let a = start j in ((λ vs q. let n = known k (turn.Goes _) (c .before .turn .given .1) vs q in let l = j .before .loop .inv .0 vs q in record { stands = n .1; accepts = sym (ap (judged vs) (n .0)) ∙ l .accepts; bytes = sym (ap (λ (x : Trace). laid (a .args .rs .width) (characters (a .args .area .now) vs) x (j .before .loop .dst)) (n .0)) ∙ l .bytes; stars = sym (ap (λ (x : Trace). j .before .loop .starred + starredIn vs x) (n .0)) ∙ l .stars }), j .before .loop .inv .1)
 
 enum-told-2 : tie.Need-enum-told-2 Inv-loop μ-loop
 enum-told-2 c = search needs
@@ -225,11 +243,14 @@ lay-pass-spec =
     loop-again
     loop-less-2
     loop-again-2
+    enum-known-cover-2
+    loop-less-3
+    loop-again-3
     enum-told
     advance-requires
     enum-known-turn
-    loop-less-3
-    loop-again-3
+    loop-less-4
+    loop-again-4
     enum-told-2
     same-length
     returns
