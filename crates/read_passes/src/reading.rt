@@ -32,7 +32,7 @@ pub fn read_pass(
     let part = has_field(words, back);
     let mut c = first_cursor();
     loop {
-        let cover = cover_at(words, kinds, rs, c);
+        let cover = cover_at(words, back, part, kinds, rs, c);
         match cover {
             Cover::Columns { at, width, next } => {
                 let index = c.index;

@@ -104,11 +104,15 @@ module _ (t ws : List ℕ) (back : ℕ) (ks : List ℕ) (rs : Records) (c : Curs
       → Seen r (turnOf (sheetOf t ws back ks rs) back c)
   cover-item r h e = seen-item r h (seen-so (c .state) (c .index + 1) (stepAnswer (rs .width) (steps.step (map kindFrom ks) rs (metOf t (getD ws (c .index) 0)) (c .state))) e)
 
+  pub seen-end : (r : Cover) → length ws ≤ c .index → Seen r (onwardAnswer (c .state) back (stepAnswer (rs .width) (endStep (map kindFrom ks) rs (drop back (map (metOf t) ws)) (c .state))))
+      → Seen r (turnOf (sheetOf t ws back ks rs) back c)
+  seen-end r h e = subst (λ (u : Turn). Seen r u) (turn-end t ws back ks rs c h refl refl) e
+
+  -- nothing is covered at the end of the format
   pub cover-end : length ws ≤ c .index → Seen cover.Nothing (turnOf (sheetOf t ws back ks rs) back c)
   cover-end h =
       let x = stepAnswer (rs .width) (endStep (map kindFrom ks) rs (drop back (map (metOf t) ws)) (c .state)) in
-      subst (λ (u : Turn). Seen cover.Nothing u) (turn-end t ws back ks rs c h refl refl)
-      (seen-so (c .state) back x (end-bare back (rs .width) (map kindFrom ks) rs (drop back (map (metOf t) ws)) (c .state) .is))
+      seen-end cover.Nothing h (seen-so (c .state) back x (end-bare back (rs .width) (map kindFrom ks) rs (drop back (map (metOf t) ws)) (c .state) .is))
 
 -- ---- a field's word
 

@@ -69,7 +69,7 @@ pub enum Turn {
     },
 }
 
-// The columns that a turn covers, or that it moves past an X, and the walk after it; or neither.
+// The columns that a turn covers, or that it moves on, and the walk after it; or neither.
 pub enum Cover {
     Columns {
         at: usize,

@@ -21,7 +21,7 @@ ghost use Prim.Native.Nat.{ℕ, _<_, _^_};
 ghost use lib.ListN.{length, drop};
 ghost use Rattle.format_words.specs.Words.{metOf};
 ghost use Rattle.format_run.specs.Runs.{RunWords};
-ghost use Rattle.sheet_walk.specs.Steps.{start, hasField, What, coverStep, xStep};
+ghost use Rattle.sheet_walk.specs.Steps.{start, hasField, What, coverStep, xStep, nextRecord};
 ghost use Rattle.sheet_walk.specs.Turns.{Standing, elementKind, columnsFor, cursor, sheetOf, stepAnswer, onwardAnswer, turnOf, coverIn, Seen};
 
 // The cursor at the start of the walk.
@@ -136,15 +136,46 @@ fn move_past(rs: Records, s: State, n: usize, index: usize) -> Cover
     Cover::Nothing
 }
 
-// What the turn of a cursor covers, or that it moves past an X: most turns do, and this much of `advance` is small enough to stand
-// in the loop of each pass.
-pub fn cover_at(words: &[u64], kinds: &[u64], rs: Records, c: Cursor) -> Cover
+// To the next record, if there is one; the walk goes on at the item of an index.
+fn move_down(rs: Records, s: State, index: usize) -> Cover
+    requires { ⌜ Standing rs s ⌝ }
+    ensures { λ r. ⌜ Seen r (onwardAnswer s index (stepAnswer (rs .width) (nextRecord rs s))) ⌝ }
+{
+    let row = s.row + 1;
+    if row < rs.count {
+        let state = State {
+            row,
+            column: 1,
+            taken: s.taken,
+        };
+        return Cover::Moves(Cursor { index, state });
+    }
+    Cover::Nothing
+}
+
+// What the turn of a cursor covers, or where it moves, for an X and a return: most turns do, and this much of `advance` is small
+// enough to stand in the loop of each pass.
+pub fn cover_at(
+    words: &[u64],
+    back: usize,
+    part: bool,
+    kinds: &[u64],
+    rs: Records,
+    c: Cursor,
+) -> Cover
     requires { ⌜ Standing rs (c .state) ⌝ }
-    ensures { λ r. ⌜ ((t : List ℕ) (back : ℕ) → RunWords (length t) (now (words .entry)) → Seen r (turnOf (sheetOf t (now (words .entry)) back (now (kinds .entry)) rs) back c)) ⌝ }
+    ensures { λ r. ⌜ ((t : List ℕ) → RunWords (length t) (now (words .entry)) → part ≡ hasField (drop back (map (metOf t) (now (words .entry)))) → Seen r (turnOf (sheetOf t (now (words .entry)) back (now (kinds .entry)) rs) back c)) ⌝ }
 {
     let i = c.index;
     let s = c.state;
+    let place = s.taken;
     if words.len() <= i {
+        if kinds.len() <= place {
+            return Cover::Nothing;
+        }
+        if part {
+            return move_down(rs, s, back);
+        }
         return Cover::Nothing;
     }
     let word = words[i];
@@ -155,9 +186,8 @@ pub fn cover_at(words: &[u64], kinds: &[u64], rs: Records, c: Cursor) -> Cover
         if word % KIND_BASE < KIND_LITERAL {
             return Cover::Nothing;
         }
-        return columns(rs, s, second_of(word), s.taken, i + 1);
+        return columns(rs, s, second_of(word), place, i + 1);
     }
-    let place = s.taken;
     if kinds.len() <= place {
         return Cover::Nothing;
     }

@@ -38,7 +38,7 @@ pub fn lay_pass(
     let mut starred: usize = 0;
     let mut c = first_cursor();
     loop {
-        let cover = cover_at(words, kinds, rs, c);
+        let cover = cover_at(words, back, part, kinds, rs, c);
         match cover {
             Cover::Columns { at, width, next } => {
                 let index = c.index;

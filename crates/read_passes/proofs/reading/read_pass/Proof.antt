@@ -38,14 +38,14 @@ covered : (c : tie.After-cover-at Inv-loop μ-loop) {a w : ℕ} {n : Cursor} →
 covered c {a} {w} {n} e t l =
     passes.passed t (start c .args .words .now) (start c .args .back) (start c .args .kinds .now) (start c .args .rs) l (c .before .loop .c)
     (c .before .loop .inv .0 t l .stands) (turn.Covers a w n) (turn.Covers a w n)
-    (sym (covers-so (c .cover-at .ensures t (start c .args .back) (l .sound)) e)) refl
+    (sym (covers-so (c .cover-at .ensures t (l .sound) (c .before .before .before .has-field .ensures t)) e)) refl
 
 moved : (c : tie.After-cover-at Inv-loop μ-loop) {n : Cursor} → c .cover-at .result ≡ cover.Moves n → (t : List ℕ) (l : Loaded t (start c .args .words .now) (start c .args .kinds .now) (start c .args .rs))
     → passes.Passed t (start c .args .words .now) (start c .args .back) (start c .args .kinds .now) (start c .args .rs) l (c .before .loop .c) (turn.Goes n)
 moved c {n} e t l =
     passes.passed t (start c .args .words .now) (start c .args .back) (start c .args .kinds .now) (start c .args .rs) l (c .before .loop .c)
     (c .before .loop .inv .0 t l .stands) (turn.Goes n) (turn.Goes n)
-    (sym (moves-so (c .cover-at .ensures t (start c .args .back) (l .sound)) e)) refl
+    (sym (moves-so (c .cover-at .ensures t (l .sound) (c .before .before .before .has-field .ensures t)) e)) refl
 
 known : (c : tie.After-advance Inv-loop μ-loop) (u : Turn) → c .advance .result ≡ u → (t : List ℕ) (l : Loaded t (start (c .before .before .before) .args .words .now) (start (c .before .before .before) .args .kinds .now) (start (c .before .before .before) .args .rs))
     → passes.Passed t (start (c .before .before .before) .args .words .now) (start (c .before .before .before) .args .back) (start (c .before .before .before) .args .kinds .now) (start (c .before .before .before) .args .rs) l (c .before .before .before .before .loop .c) u
@@ -61,7 +61,7 @@ uncovered : (c : tie.After-advance Inv-loop μ-loop) {at w : ℕ} {n : Cursor} �
 uncovered c e t l =
     let a = start (c .before .before .before) in
     let k = c .before .before .before .before in
-    covers-not (c .before .before .before .cover-at .ensures t (a .args .back) (l .sound)) (c .before .enum-told3 .given .1)
+    covers-not (c .before .before .before .cover-at .ensures t (l .sound) (k .before .before .has-field .ensures t)) (c .before .enum-told3 .given .1)
     (sym (c .advance .ensures t (l .sound) (k .before .before .has-field .ensures t)) ∙ e)
 
 -- what that of `take_field` says

@@ -38,14 +38,14 @@ covered : (c : tie.After-cover-at Inv-loop μ-loop) {at w : ℕ} {n : Cursor} �
 covered c {at} {w} {n} e t area vs r =
     passed t (start c .args .words .now) (start c .args .back) (start c .args .kinds .now) (start c .args .rs) (r .loaded) (c .before .loop .c)
     (c .before .loop .inv t area vs r .stands) (turn.Covers at w n) (turn.Covers at w n)
-    (sym (covers-so (c .cover-at .ensures t (start c .args .back) (r .loaded .sound)) e)) refl
+    (sym (covers-so (c .cover-at .ensures t (r .loaded .sound) (c .before .before .before .has-field .ensures t)) e)) refl
 
 moved : (c : tie.After-cover-at Inv-loop μ-loop) {n : Cursor} → c .cover-at .result ≡ cover.Moves n → (t area : List ℕ) (vs : List Value) (r : ReadyAt c t area vs)
     → Passed t (start c .args .words .now) (start c .args .back) (start c .args .kinds .now) (start c .args .rs) (r .loaded) (c .before .loop .c) (turn.Goes n)
 moved c {n} e t area vs r =
     passed t (start c .args .words .now) (start c .args .back) (start c .args .kinds .now) (start c .args .rs) (r .loaded) (c .before .loop .c)
     (c .before .loop .inv t area vs r .stands) (turn.Goes n) (turn.Goes n)
-    (sym (moves-so (c .cover-at .ensures t (start c .args .back) (r .loaded .sound)) e)) refl
+    (sym (moves-so (c .cover-at .ensures t (r .loaded .sound) (c .before .before .before .has-field .ensures t)) e)) refl
 
 known : (c : tie.After-advance Inv-loop μ-loop) (u : Turn) → c .advance .result ≡ u → (t area : List ℕ) (vs : List Value) (r : ReadyAt (c .before .before .before) t area vs)
     → Passed t (start (c .before .before .before) .args .words .now) (start (c .before .before .before) .args .back) (start (c .before .before .before) .args .kinds .now) (start (c .before .before .before) .args .rs) (r .loaded) (c .before .before .before .before .loop .c) u
@@ -60,7 +60,7 @@ uncovered : (c : tie.After-advance Inv-loop μ-loop) {at w : ℕ} {n : Cursor} �
 uncovered c e t area vs r =
     let a = start (c .before .before .before) in
     let l = c .before .before .before .before in
-    covers-not (c .before .before .before .cover-at .ensures t (a .args .back) (r .loaded .sound)) (c .before .enum-told .given .1)
+    covers-not (c .before .before .before .cover-at .ensures t (r .loaded .sound) (l .before .before .has-field .ensures t)) (c .before .enum-told .given .1)
     (sym (c .advance .ensures t (r .loaded .sound) (l .before .before .has-field .ensures t)) ∙ e)
 
 has-field-requires : tie.Need-has-field-requires Inv-loop μ-loop

@@ -52,7 +52,7 @@ covered c {a} {w} {n} e vs q =
     let t = start c .args .chars .now in
     passes.passed t (start c .args .words .now) (start c .args .back) (start c .args .kinds .now) (start c .args .rs) (q .ready .loaded) (c .before .loop .c)
     (c .before .loop .inv .0 vs q .stands) (turn.Covers a w n) (turn.Covers a w n)
-    (sym (covers-so (c .cover-at .ensures t (start c .args .back) (q .ready .loaded .sound)) e)) refl
+    (sym (covers-so (c .cover-at .ensures t (q .ready .loaded .sound) (c .before .before .before .has-field .ensures t)) e)) refl
 
 moved : (c : tie.After-cover-at Inv-loop μ-loop) {n : Cursor} → c .cover-at .result ≡ cover.Moves n → (vs : List Value) (q : Accepted c vs)
     → passes.Passed (start c .args .chars .now) (start c .args .words .now) (start c .args .back) (start c .args .kinds .now) (start c .args .rs) (q .ready .loaded)
@@ -61,7 +61,7 @@ moved c {n} e vs q =
     let t = start c .args .chars .now in
     passes.passed t (start c .args .words .now) (start c .args .back) (start c .args .kinds .now) (start c .args .rs) (q .ready .loaded) (c .before .loop .c)
     (c .before .loop .inv .0 vs q .stands) (turn.Goes n) (turn.Goes n)
-    (sym (moves-so (c .cover-at .ensures t (start c .args .back) (q .ready .loaded .sound)) e)) refl
+    (sym (moves-so (c .cover-at .ensures t (q .ready .loaded .sound) (c .before .before .before .has-field .ensures t)) e)) refl
 
 known : (c : tie.After-advance Inv-loop μ-loop) (u : Turn) → c .advance .result ≡ u → (vs : List Value) (q : Accepted (c .before .before .before) vs)
     → passes.Passed (start (c .before .before .before) .args .chars .now) (start (c .before .before .before) .args .words .now) (start (c .before .before .before) .args .back) (start (c .before .before .before) .args .kinds .now) (start (c .before .before .before) .args .rs) (q .ready .loaded)
@@ -79,7 +79,7 @@ uncovered c e vs q =
     let a = start (c .before .before .before) in
     let l = c .before .before .before .before in
     let t = a .args .chars .now in
-    covers-not (c .before .before .before .cover-at .ensures t (a .args .back) (q .ready .loaded .sound)) (c .before .enum-told .given .1)
+    covers-not (c .before .before .before .cover-at .ensures t (q .ready .loaded .sound) (l .before .before .has-field .ensures t)) (c .before .enum-told .given .1)
     (sym (c .advance .ensures t (q .ready .loaded .sound) (l .before .before .has-field .ensures t)) ∙ e)
 
 -- the word of the next item, its element, and the walk from a cursor on
