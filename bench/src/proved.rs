@@ -2,9 +2,7 @@
 
 use crate::cases::{Act, Case};
 use crate::contestants::{Contestant, Work};
-use reference::Value;
-
-const SLOTS: usize = 64;
+use slots::Slots;
 
 extern "C" {
     fn bench_write(
@@ -48,39 +46,20 @@ impl Contestant for Proved {
     }
 
     fn ready<'a>(&'a self, case: &'a Case, act: Act) -> Option<Box<dyn Work + 'a>> {
-        let (shapes, numbers) = slots(if act == Act::Read { &case.read } else { &case.elements });
+        let slots = Slots::of(if act == Act::Read { &case.read } else { &case.elements });
         let bytes = match act {
             Act::Write => vec![0; case.records.len()],
             Act::Read => vec![0; case.area.len()],
             Act::Check => Vec::new(),
         };
-        Some(Box::new(Calls { case, act, shapes, numbers, bytes, wrong: 0 }))
+        Some(Box::new(Calls { case, act, slots, bytes, wrong: 0 }))
     }
-}
-
-/// A list in the numbers that the calls take: for each slot a kind, the places
-/// or start and the length, and besides them n, units or 0 and 1.
-fn slots(elements: &[Value]) -> ([usize; 3 * SLOTS], [i64; SLOTS]) {
-    let mut shapes = [0; 3 * SLOTS];
-    let mut numbers = [0; SLOTS];
-    for (slot, &element) in elements.iter().enumerate() {
-        let (kind, start, len, number) = match element {
-            Value::Integer(n) => (0, 0, 0, n),
-            Value::Decimal { units, places } => (1, places, 0, units),
-            Value::Logical(b) => (2, 0, 0, i64::from(b)),
-            Value::Text { start, len } => (3, start, len, 0),
-        };
-        shapes[3 * slot..][..3].copy_from_slice(&[kind, start as usize, len as usize]);
-        numbers[slot] = number;
-    }
-    (shapes, numbers)
 }
 
 struct Calls<'a> {
     case: &'a Case,
     act: Act,
-    shapes: [usize; 3 * SLOTS],
-    numbers: [i64; SLOTS],
+    slots: Slots,
     /// The records written, or the texts read.
     bytes: Vec<u8>,
     /// Calls that did not give what they should.
@@ -89,7 +68,7 @@ struct Calls<'a> {
 
 impl Work for Calls<'_> {
     fn repeat(&mut self, times: usize) {
-        let Calls { case, shapes, numbers, bytes, .. } = self;
+        let Calls { case, slots: Slots { shapes, numbers }, bytes, .. } = self;
         let format = &case.format;
         // SAFETY: every pointer comes with the length of the slice it is taken from, but for the 64 numbers of a reading.
         let good = unsafe {
