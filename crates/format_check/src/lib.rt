@@ -1,9 +1,10 @@
 // The format check: rows 2 to 5 of document 01's 'Checks by place'.
 pub mod check;
 pub mod items;
-pub mod refusal;
 
 use format_grammar::FormatRefusal;
+// The number and the place of a refusal.
+pub use format_grammar::refusal;
 
 // What the format check answers.
 pub enum FormatCheck {

@@ -1,4 +1,5 @@
 // Formats: their limits, and the refusals of the format check. The definitions and theorems are in specs/ and proofs/.
+pub mod refusal;
 
 // The longest format, in bytes.
 pub const LONGEST_FORMAT: usize = 1024;

@@ -8,8 +8,8 @@ use lib.ListN.{length, take}
 use Rattle.format_grammar.specs.Met.{met, returnIndex}
 use Rattle.format_grammar.specs.Promises.{AllMetWithin}
 use Rattle.format_grammar.proofs.Promises.{accepts-exactly, met-is-size, met-in-range, return-index-is}
-use Rattle.format_words.specs.Words.{metOf}
-use Rattle.format_run.specs.Runs.{RunWords, Ran}
+use Rattle.format_words.specs.Words.{metOf, RunWords}
+use Rattle.format_run.specs.Runs.{Ran}
 use Rattle.format_check.specs.Checked.{ItemsHeld}
 use Rattle.format_load.specs.Loaded.{RunHeld}
 

@@ -9,8 +9,7 @@ use Rattle.format_grammar.specs.Met.{met, returnPart}
 use Rattle.format_grammar.specs.Size.{largestSize}
 use Rattle.format_grammar.specs.Check.{longestFormat, accepted, refused, outcome}
 use Rattle.format_grammar.specs.Promises.{AllMetWithin}
-use Rattle.format_words.specs.Words.{metOf}
-use Rattle.format_run.specs.Runs.{RunWords}
+use Rattle.format_words.specs.Words.{metOf, RunWords}
 use Rattle.format_load.specs.declared.Loading.{Loading}
 use Rattle.format_load.specs.declared.Loading.the-variants.{Refused, Larger, Run}
 
@@ -23,6 +22,11 @@ pub record RunHeld (format t words : List ℕ) (back : ℕ) : Type 0 where
   pub mean : map (metOf t) words ≡ met items
   pub within : AllMetWithin (map (metOf t) words)
   pub return-to : drop back (map (metOf t) words) ≡ met (returnPart items)
+
+-- the run of an accepted format, whichever it is
+pub record SomeRun (t words : List ℕ) (back : ℕ) : Type 0 where
+  pub format : List ℕ
+  pub held : RunHeld format t words back
 
 -- the refusal; or that arrays of these lengths (of entries, of characters, of words) are not all of the largest size that a
 -- format may need; or the run

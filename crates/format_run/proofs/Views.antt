@@ -7,10 +7,9 @@ use native.Mathlib.Omega.{arith}
 use lib.ListN.{length, getD}
 use Rattle.format_grammar.specs.Items.{Repeat, times, Items}
 use Rattle.format_grammar.specs.Met.{Met}
-use Rattle.format_words.specs.Words.{kindOf, firstOf, wordOf, repeatOf, metOf}
+use Rattle.format_words.specs.Words.{kindOf, firstOf, wordOf, repeatOf, metOf, RunWord}
 use Rattle.format_words.specs.Held.{First, Holds}
 use Rattle.format_words.proofs.HeldLaws.{holds-le}
-use Rattle.format_run.specs.Runs.{RunWord}
 
 -- where a group's entries end
 abbrev pub endOf : List ℕ → ℕ → ℕ

@@ -8,7 +8,7 @@ use Rattle.format_grammar.specs.Items.{Items}
 use Rattle.format_grammar.specs.Ranges.{numbers, AllWithin}
 use Rattle.format_grammar.specs.Size.{size}
 use Rattle.format_grammar.specs.Met.{Met, repeat}
-use Rattle.format_words.specs.Words.{kindOf, kindGroup, metOf, reach}
+use Rattle.format_words.specs.Words.{metOf, RunWords}
 use Rattle.format_words.specs.Held.{Holds}
 
 -- the words from n up to m can be had r times instead of once
@@ -32,15 +32,6 @@ pub record Fits (a : List ℕ) (level from to : ℕ) (run : List ℕ) (n : ℕ) 
   pub holds : Holds a t c level from items to
   pub ranges : AllWithin (numbers items)
   pub room : n + size items ≤ length run
-
--- a word of a run is of no group, and a literal's characters are among the first c
-abbrev pub RunWord : ℕ → ℕ → Type 0
-RunWord c w = (kindOf w < kindGroup) × (reach w ≤ c)
-
--- every word is such
-abbrev pub RunWords : ℕ → List ℕ → Type 0
-RunWords c [] = Unit {0}
-RunWords c (w ∷ ws) = RunWord c w × RunWords c ws
 
 -- the first m words of out are the first n of run, and words that stand for the items met ks
 pub record Ran (t : List ℕ) (c : ℕ) (run : List ℕ) (n : ℕ) (ks : List Met) (out : List ℕ) (m : ℕ) : Type 0 where

@@ -1,8 +1,8 @@
 -- An item met as one number, a word: its kind, and up to two numbers. The characters of literals are kept beside the words.
 -- Assumes nothing.
 use mathlib.Core.Bool.{Bool, true, false, cond}
-use mathlib.Core.List.{List}
-use Prim.Native.Nat.{ℕ, _+_, _*_, _/_, _%_}
+use mathlib.Core.List.{List, [], _∷_}
+use Prim.Native.Nat.{ℕ, _+_, _*_, _/_, _%_, _<_, _≤_}
 use lib.Dec.{eqb}
 use lib.ListN.{take, drop}
 use Rattle.format_grammar.specs.Items.{Field}
@@ -79,6 +79,15 @@ metOf t w =
 -- how far into the characters a word reaches: a literal up to its end, others not at all
 unfoldable pub reach : ℕ → ℕ
 reach w = cond (eqb (kindOf w) kindLiteral) (firstOf w + secondOf w) 0
+
+-- a word of a run is of no group, and a literal's characters are among the first c
+abbrev pub RunWord : ℕ → ℕ → Type 0
+RunWord c w = (kindOf w < kindGroup) × (reach w ≤ c)
+
+-- every word is such
+abbrev pub RunWords : ℕ → List ℕ → Type 0
+RunWords c [] = Unit {0}
+RunWords c (w ∷ ws) = RunWord c w × RunWords c ws
 
 -- an entry, for an item with its repeat: a word and the repeat; a group's word has the number of entries inside as its first
 -- number, and they follow it

@@ -11,7 +11,7 @@ use sheet_walk::Refusal;
 use sheet_walk::WIDEST_RECORD;
 ghost use Prim.Native.Nat.{_≤_, _<_, _^_};
 ghost use lib.ListN.{length};
-ghost use Rattle.sheet_walk.specs.Turns.{SomeRun};
+ghost use Rattle.format_load.specs.Loaded.{SomeRun};
 ghost use Rattle.sheet_read.specs.Parts.{ReadRun, ReadText, ReadCall};
 
 // Under a format that was loaded, if the wanted elements are good, their texts have room and there is a record: rows 6, 13 and

@@ -11,9 +11,8 @@ use lib.Dec.{leb}
 use lib.ListN.{length, getD, take, drop, length-map, List·getD-map, drop-of-length-le, length-drop}
 use lib.Seq.{drop-cons, length-take-le}
 use Rattle.format_grammar.specs.Met.{Met}
-use Rattle.format_words.specs.Words.{kindOf, firstOf, secondOf, metOf, reach}
+use Rattle.format_words.specs.Words.{kindOf, firstOf, secondOf, metOf, reach, RunWord, RunWords}
 use Rattle.format_words.proofs.WordKinds.{is-I, is-F, is-L, is-A, is-Aw, is-X, is-T, is-slash, is-literal}
-use Rattle.format_run.specs.Runs.{RunWord, RunWords}
 use Rattle.sheet_walk.specs.Steps.{isField, hasField}
 
 -- ---- from an index on

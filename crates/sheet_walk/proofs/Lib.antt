@@ -15,4 +15,3 @@ pub mod TurnLaws
 pub mod CoverLaws
 pub mod Turned
 pub mod Passes
-pub mod Loads

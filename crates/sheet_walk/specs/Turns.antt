@@ -10,9 +10,7 @@ use lib.ListN.{length, drop, getD}
 use Rattle.format_grammar.specs.Items.{Field}
 use Rattle.format_grammar.specs.Met.{Met}
 use Rattle.format_grammar.specs.Promises.{MetWithin, AllMetWithin}
-use Rattle.format_words.specs.Words.{metOf, kindOf, firstOf}
-use Rattle.format_run.specs.Runs.{RunWord, RunWords}
-use Rattle.format_load.specs.Loaded.{RunHeld}
+use Rattle.format_words.specs.Words.{metOf, kindOf, firstOf, RunWord, RunWords}
 use Rattle.list_elements.specs.Elements.{Kind}
 use Rattle.list_elements.specs.Apart.{kindFrom}
 use Rattle.sheet_walk.specs.Steps as steps
@@ -126,11 +124,6 @@ pub record Loaded (t words kinds : List ℕ) (rs : Records) : Type 0 where
   pub narrow : rs .width < 256
   pub many : rs .count < 2 ^ 63
   pub fits : rs .count * rs .width < 2 ^ 63
-
--- the run of an accepted format, whichever it is
-pub record SomeRun (t words : List ℕ) (back : ℕ) : Type 0 where
-  pub format : List ℕ
-  pub held : RunHeld format t words back
 
 -- there is a record, and the records lie in a buffer of B bytes
 pub record Roomy (rs : Records) (B : ℕ) : Type 0 where

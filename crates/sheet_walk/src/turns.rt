@@ -19,8 +19,7 @@ ghost use mathlib.Core.Path.{_≡_};
 ghost use mathlib.Core.List.{List, map};
 ghost use Prim.Native.Nat.{ℕ, _<_, _^_};
 ghost use lib.ListN.{length, drop};
-ghost use Rattle.format_words.specs.Words.{metOf};
-ghost use Rattle.format_run.specs.Runs.{RunWords};
+ghost use Rattle.format_words.specs.Words.{metOf, RunWords};
 ghost use Rattle.sheet_walk.specs.Steps.{start, hasField, What, coverStep, xStep, nextRecord};
 ghost use Rattle.sheet_walk.specs.Turns.{Standing, elementKind, columnsFor, cursor, sheetOf, stepAnswer, onwardAnswer, turnOf, coverIn, Seen};
 

@@ -26,7 +26,7 @@ use Rattle.sheet_walk.specs.declared.Refusal.the-variants as refusal
 use Rattle.sheet_walk.specs.declared.Records.{Records}
 use Rattle.sheet_walk.proofs.Covering.{covers-reached}
 use Rattle.sheet_walk.proofs.Passes.{walkable}
-use Rattle.sheet_walk.proofs.Loads.{run-loaded, run-sheet}
+use Rattle.sheet_rows.proofs.Loads.{run-loaded, run-sheet}
 use Rattle.write_passes.specs.Placed.{characters, starredIn, Judged, accepted, refused, judged}
 use Rattle.write_passes.specs.Passes.{Ready, endingOf}
 use Rattle.sheet_walk.specs.declared.Ending.{Ending}

@@ -8,7 +8,7 @@ use sheet_walk::Answer;
 use sheet_walk::Records;
 use sheet_walk::Refusal;
 ghost use Prim.Native.Nat.{_≤_, _<_};
-ghost use Rattle.sheet_walk.specs.Turns.{SomeRun};
+ghost use Rattle.format_load.specs.Loaded.{SomeRun};
 ghost use Rattle.sheet_write.specs.Parts.{SomeListedIf, WroteRun, WroteText};
 
 // Under a format that was loaded, if the list is good and there is a record: rows 6 and 9, and the walk.

@@ -5,7 +5,7 @@ use native.Mathlib.Omega.{arith}
 use borrow.Author.Tests.{not-true, not-false}
 use lib.ListN.{length}
 use Rattle.format_grammar.specs.Check.{outcome}
-use Rattle.sheet_walk.proofs.Loads.{roomy, run-loaded, run-sheet}
+use Rattle.sheet_rows.proofs.Loads.{roomy, run-loaded, run-sheet}
 use Rattle.sheet_read.proofs.ReadLaws.{list-refused, no-room, no-record, walked}
 use borrow.Author.Needs.{needs}
 use Rattle.sheet_read.proofs.formats.read_loaded.Statement.{statement}

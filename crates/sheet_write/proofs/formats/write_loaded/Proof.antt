@@ -3,7 +3,7 @@
 use native.Mathlib.Omega.{arith}
 use lib.ListN.{length}
 use Rattle.sheet_write.proofs.WriteLaws.{wrote-same, run-ready, sheet-is, no-record, some-record, list-refused, both-good}
-use Rattle.sheet_walk.proofs.Loads.{roomy}
+use Rattle.sheet_rows.proofs.Loads.{roomy}
 use borrow.Author.Needs.{needs}
 use Rattle.sheet_write.proofs.formats.write_loaded.Statement.{statement}
 use Rattle.sheet_write.proofs.formats.write_loaded.Tie as tie

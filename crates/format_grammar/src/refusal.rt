@@ -1,8 +1,8 @@
 // Refusals as document 01 numbers and places them.
-use format_grammar::FormatRefusal;
-use format_grammar::LONGEST_FORMAT;
+use crate::FormatRefusal;
+use crate::LONGEST_FORMAT;
 ghost use mathlib.Core.Path.{_≡_};
 ghost use Rattle.format_grammar.specs.Check.{refusalNumber, refusalPlace};
 
 // The number of a refusal.
 pub fn number_of(refusal: FormatRefusal) -> u64

@@ -1,0 +1,1 @@
+// The rows before the walk, for writing and reading. The definitions and theorems are in specs/ and proofs/: it has no code.
