@@ -3,9 +3,9 @@
 use Prim.Native.Nat.{ℕ, _≤_}
 use native.Mathlib.Omega.{arith}
 use Rattle.number.specs.Limits.{largest}
-use Rattle.format_grammar.specs.Check as format
-use Rattle.format_grammar.specs.declared.FormatRefusal.{FormatRefusal}
-use Rattle.format_grammar.specs.declared.FormatRefusal.the-variants as format-refusal
+use Rattle.format_items.specs.Refusals as format
+use Rattle.format_items.specs.declared.FormatRefusal.{FormatRefusal}
+use Rattle.format_items.specs.declared.FormatRefusal.the-variants as format-refusal
 use Rattle.sheet_walk.specs.Refusals.{refusalNumber}
 use Rattle.sheet_walk.specs.declared.Refusal.{Refusal}
 use Rattle.sheet_walk.specs.declared.Refusal.the-variants.{RecordWidth, Format, Element, TextArea, NoRecord, NextRecord, NoField, Kind, Column, TooLarge, FieldText}

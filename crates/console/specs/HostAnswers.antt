@@ -2,7 +2,7 @@
 -- negated, without its place'.
 -- Assumes nothing.
 use lib.IntN.{ℤ, pos, negℤ}
-use Rattle.format_grammar.specs.Check as format
+use Rattle.format_items.specs.Refusals as format
 use Rattle.format_check.specs.declared.FormatCheck.{FormatCheck}
 use Rattle.format_check.specs.declared.FormatCheck.the-variants as check
 use Rattle.sheet_walk.specs.Refusals.{refusalNumber}

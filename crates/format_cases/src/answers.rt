@@ -4,7 +4,7 @@ use case_lines::shown::show_refused;
 use format_check::FormatCheck;
 use format_check::refusal::number_of;
 use format_check::refusal::place_of;
-use format_grammar::FormatRefusal;
+use format_items::FormatRefusal;
 use libc::STDOUT_FILENO;
 
 // A refusal's number and place.

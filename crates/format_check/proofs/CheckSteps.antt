@@ -6,12 +6,12 @@ use Prim.Native.Nat.{ℕ, _-_, _<_, _≤_}
 use native.Mathlib.Omega.{arith}
 use borrow.Author.Tests.{lt-ltb, le-ltb}
 use lib.ListN.{length}
-use Rattle.format_grammar.specs.Ranges.{numbers, FirstOutside, nowhere, at, firstOutside}
-use Rattle.format_grammar.specs.Size.{size}
+use Rattle.format_items.specs.Ranges.{numbers, FirstOutside, nowhere, at, firstOutside}
+use Rattle.format_items.specs.Size.{size}
 use Rattle.format_grammar.specs.Reading.{wrong, reading}
 use Rattle.format_grammar.specs.Check.{Outcome, accepted, refused, checkSize, checkRange, outcome, outcomeNumber, outcomePlace}
-use Rattle.format_grammar.specs.declared.FormatRefusal.the-variants.{Length, Grammar, Range, Size}
-use Rattle.format_grammar.proofs.RangeLaws.{nowhere-all}
+use Rattle.format_items.specs.declared.FormatRefusal.the-variants.{Length, Grammar, Range, Size}
+use Rattle.format_items.proofs.RangeLaws.{nowhere-all}
 use Rattle.format_grammar.proofs.Promises.{outcome-short}
 use Rattle.format_words.specs.Held.{Held}
 use Rattle.format_run.specs.Sizes.{capped}

@@ -4,11 +4,12 @@ use mathlib.Core.Path.{_≡_}
 use mathlib.Core.List.{List}
 use Prim.Native.Nat.{ℕ, _≤_}
 use lib.ListN.{length}
-use Rattle.format_grammar.specs.Items.{Items}
+use Rattle.format_items.specs.Items.{Items}
 use Rattle.format_grammar.specs.Grammar.{levels}
-use Rattle.format_grammar.specs.Ranges.{numbers, AllWithin}
-use Rattle.format_grammar.specs.Size.{size, largestSize}
-use Rattle.format_grammar.specs.Check.{Outcome, accepted, refused, outcome, refusalNumber, refusalPlace}
+use Rattle.format_items.specs.Ranges.{numbers, AllWithin}
+use Rattle.format_items.specs.Size.{size, largestSize}
+use Rattle.format_grammar.specs.Check.{Outcome, accepted, refused, outcome}
+use Rattle.format_items.specs.Refusals.{refusalNumber, refusalPlace}
 use Rattle.format_words.specs.Held.{Holds}
 use Rattle.format_check.specs.declared.FormatCheck.{FormatCheck}
 use Rattle.format_check.specs.declared.FormatCheck.the-variants as check

@@ -2,12 +2,13 @@
 use crate::FormatCheck;
 use crate::ItemsChecked;
 use crate::items::check_items;
-use format_grammar::FormatRefusal;
-use format_grammar::LONGEST_FORMAT;
+use format_items::FormatRefusal;
+use format_items::LONGEST_FORMAT;
 ghost use mathlib.Core.Path.{_≡_};
 ghost use Prim.Native.Nat.{_≤_};
 ghost use lib.ListN.{length};
-ghost use Rattle.format_grammar.specs.Check.{longestFormat, outcome, outcomeNumber, outcomePlace};
+ghost use Rattle.format_grammar.specs.Check.{outcome, outcomeNumber, outcomePlace};
+ghost use Rattle.format_items.specs.Refusals.{longestFormat};
 ghost use Rattle.format_check.specs.Checked.{answer, answerNumber, answerPlace};
 
 // Rows 3 to 5, with room for the text's items.

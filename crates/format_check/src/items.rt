@@ -1,14 +1,14 @@
 // The items of a format, checked: rows 3 to 5.
 use crate::ItemsChecked;
-use format_grammar::FormatRefusal;
-use format_grammar::LARGEST_SIZE;
 use format_grammar::LEVELS;
+use format_items::FormatRefusal;
+use format_items::LARGEST_SIZE;
 use format_read::Answer;
 use format_read::format::read_format;
 use format_run::size::size_of;
 ghost use Prim.Native.Nat.{_≤_};
 ghost use lib.ListN.{length};
-ghost use Rattle.format_grammar.specs.Check.{longestFormat};
+ghost use Rattle.format_items.specs.Refusals.{longestFormat};
 ghost use Rattle.format_check.specs.Checked.{itemsChecked};
 
 // The items of a text, as entries and characters; refused where the text is not of the grammar, a number is out of its

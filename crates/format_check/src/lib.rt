@@ -2,9 +2,9 @@
 pub mod check;
 pub mod items;
 
-use format_grammar::FormatRefusal;
+use format_items::FormatRefusal;
 // The number and the place of a refusal.
-pub use format_grammar::refusal;
+pub use format_items::refusal;
 
 // What the format check answers.
 pub enum FormatCheck {

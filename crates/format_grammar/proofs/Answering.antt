@@ -4,9 +4,10 @@ use mathlib.Core.Path.{_≡_, ap}
 use mathlib.Core.List.{List}
 use Prim.Native.Nat.{ℕ}
 use native.Mathlib.Omega.{arith}
-use Rattle.format_grammar.specs.Check.{refusalNumber, outcomeNumber, outcomePlace}
-use Rattle.format_grammar.specs.declared.FormatRefusal.{FormatRefusal}
-use Rattle.format_grammar.specs.declared.FormatRefusal.the-variants.{Length, Grammar, Range, Size}
+use Rattle.format_grammar.specs.Check.{outcomeNumber, outcomePlace}
+use Rattle.format_items.specs.Refusals.{refusalNumber}
+use Rattle.format_items.specs.declared.FormatRefusal.{FormatRefusal}
+use Rattle.format_items.specs.declared.FormatRefusal.the-variants.{Length, Grammar, Range, Size}
 use Rattle.format_grammar.specs.Promises.{Answers, AnsweredBy}
 use Rattle.format_grammar.proofs.Promises.{accepts-exactly, length-refused, grammar-refused, range-refused, size-refused}
 

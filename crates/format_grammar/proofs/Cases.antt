@@ -2,9 +2,8 @@
 -- Assumes nothing.
 use mathlib.Core.Path.{_≡_, refl}
 use mathlib.Core.Logic.{inl, inr}
-use mathlib.Core.Bool.{Bool, true, false, _&&_, _||_}
+use mathlib.Core.Bool.{Bool, true, false, _||_}
 use Prim.Native.Nat.{ℕ}
-use native.Mathlib.Omega.{arith}
 use borrow.Author.Tests.{eqb-true}
 use lib.Dec.{eqb}
 use Rattle.format_grammar.specs.Characters.{apostrophe, quotationMark}
@@ -14,14 +13,6 @@ use Rattle.format_grammar.specs.Reading.{State, pick}
 pub pick-cases : (P : State → Type 0) (t : Bool) (a b : State) → (t ≡ true → P a) → (t ≡ false → P b) → P (pick t a b)
 pick-cases P true a b f g = f refl
 pick-cases P false a b f g = g refl
-
--- a test that fails does not hold
-pub no-way : {P : Type 0} → false ≡ true → P
-no-way e = let z : _≡_ {A = ℕ} 0 1 = cc in absurd (omega arith)
-
-pub and-true : (a b : Bool) → (a && b) ≡ true → (a ≡ true) × (b ≡ true)
-and-true true b e = (refl, e)
-and-true false b e = (e, (cc))
 
 -- an apostrophe or a quotation mark, by the test for one
 pub is-mark : (b : ℕ) → (eqb b apostrophe || eqb b quotationMark) ≡ true → Mark b

@@ -9,10 +9,10 @@ use borrow.Author.Tests.{ne-eqb}
 use lib.ListN.{getD}
 use Rattle.buffer.specs.Characters.{decimalPoint}
 use Rattle.format_grammar.specs.Characters.{letterI, letterF, letterL, letterA, openingBracket, letterX, letterT, slashSign, closingBracket, comma}
-use Rattle.format_grammar.specs.Items.{Number, Repeat, Field, Items, join}
+use Rattle.format_items.specs.Items.{Number, Repeat, Field, Items, join}
 use Rattle.format_grammar.specs.Grammar.{RepeatAt, FieldAt, Nonterminal, Derives, Format}
 use Rattle.format_grammar.specs.Reading.{Use, Mode, Open, State, Reading, step, stepWithin, wanted, begun, close, readAt, reading}
-use Rattle.format_grammar.proofs.ItemLaws.{join-assoc, join-none}
+use Rattle.format_items.proofs.ItemLaws.{join-assoc, join-none}
 use Rattle.format_grammar.proofs.ReadLaws.{read-byte, read-same, read-end, step-used}
 use Rattle.format_grammar.proofs.NumberLaws.{not-digit, written-absent, read-after, read-repeat, Follows, follows, read-ended}
 use Rattle.format_grammar.proofs.LiteralLaws.{read-literal}

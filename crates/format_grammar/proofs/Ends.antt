@@ -11,7 +11,7 @@ use lib.Dec.{eqb}
 use Rattle.buffer.specs.Characters.{decimalPoint}
 use Rattle.number.specs.Digits.{isDigit}
 use Rattle.format_grammar.specs.Characters.{openingBracket, slashSign, closingBracket}
-use Rattle.format_grammar.specs.Items.{Number, number, Repeat, Field, Items, join}
+use Rattle.format_items.specs.Items.{Number, number, Repeat, Field, Items, join}
 use Rattle.format_grammar.specs.Grammar.{Mark}
 use Rattle.format_grammar.specs.Reading.{Use, Mode, Open, State, Reading, step, stepWithin, used, written, close, unlessDead, isEmpty, readFrom}
 use Rattle.format_grammar.proofs.ReadLaws.{step-digit, step-used, close-live}

@@ -1,4 +1,3 @@
-pub mod ItemLaws
 pub mod ReadLaws
 pub mod PartLaws
 pub mod NumberLaws
@@ -11,9 +10,7 @@ pub mod Steps
 pub mod Sound
 pub mod Ends
 pub mod Place
-pub mod RangeLaws
 pub mod NumberOrder
-pub mod MetLaws
 pub mod MetRanges
 pub mod Promises
 pub mod Answering

@@ -11,8 +11,9 @@ use lib.Dec.{eqb}
 use lib.ListN.{length, getD}
 use Rattle.number.specs.Digits.{isDigit}
 use Rattle.format_grammar.specs.Characters.{apostrophe, quotationMark}
-use Rattle.format_grammar.specs.Items.{Repeat, Items, join}
-use Rattle.format_grammar.specs.Grammar.{part, Mark, Printable, doubled, LiteralAt}
+use Rattle.format_items.specs.Items.{Repeat, Items, join}
+use Rattle.format_grammar.specs.Grammar.{part, Mark, doubled, LiteralAt}
+use Rattle.buffer.specs.Characters.{Printable}
 use Rattle.format_grammar.specs.Reading.{Use, Mode, Open, State, step, stepWithin, wanted, begun, isEmpty, readAt}
 use Rattle.format_grammar.proofs.ReadLaws.{read-step, read-same, step-used}
 use Rattle.format_grammar.proofs.PartLaws.{part-length, first}

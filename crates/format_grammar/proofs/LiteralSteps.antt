@@ -9,10 +9,11 @@ use native.Mathlib.Omega.{arith}
 use borrow.Author.Tests.{eq-eqb, leb-true}
 use lib.Dec.{leb, eqb}
 use lib.ListN.{length, getD}
-use Rattle.format_grammar.specs.Grammar.{At, Mark, Printable, doubled, LiteralAt}
+use Rattle.format_grammar.specs.Grammar.{At, Mark, doubled, LiteralAt}
+use Rattle.buffer.specs.Characters.{Printable}
 use Rattle.format_grammar.specs.Reading.{isEmpty}
 use Rattle.format_grammar.proofs.PartLaws.{part-more}
-use Rattle.format_grammar.proofs.Cases.{and-true}
+use Rattle.buffer.proofs.Tests.{and-true}
 use Rattle.format_grammar.proofs.Reached.{InsideAt}
 
 -- ---- the characters with one more

@@ -6,14 +6,15 @@ use Prim.Native.Nat.{ℕ, zero, suc, _*_, _<_, _≤_}
 use native.Mathlib.Nat.{mul-le-mul}
 use native.Mathlib.Omega.{arith}
 use lib.ListN.{length, replicate, length-append, length-replicate}
-use Rattle.format_grammar.specs.Items.{Number, Repeat, times, Field, Items}
+use Rattle.format_items.specs.Items.{Number, times, Field, Items}
 use Rattle.format_grammar.specs.Grammar.{Nonterminal, Derives}
-use Rattle.format_grammar.specs.Ranges.{Ranged, rangeN, repeatNumbers, fieldNumbers, numbers, AllWithin, Within}
-use Rattle.format_grammar.specs.Met.{Met, fieldValues, repeat, met}
-use Rattle.format_grammar.specs.Promises.{MetWithin, AllMetWithin, MetInRange}
-use Rattle.format_grammar.proofs.ItemLaws.{numbers-join}
-use Rattle.format_grammar.proofs.RangeLaws.{within-left, within-right}
-use Rattle.format_grammar.proofs.MetLaws.{length-repeat, met-join}
+use Rattle.format_items.specs.Ranges.{Ranged, rangeN, repeatNumbers, fieldNumbers, numbers, AllWithin, Within}
+use Rattle.format_items.specs.Met.{Met, fieldValues, repeat, met}
+use Rattle.format_grammar.specs.Promises.{MetInRange}
+use Rattle.format_items.specs.MetRanges.{MetWithin, AllMetWithin}
+use Rattle.format_items.proofs.ItemLaws.{numbers-join}
+use Rattle.format_items.proofs.RangeLaws.{within-left, within-right, times-some}
+use Rattle.format_items.proofs.MetLaws.{length-repeat, met-join}
 
 -- ---- lists of items met
 
@@ -59,10 +60,6 @@ derived-within (Derives.more {xs} {x} d c e) h =
     (all-append (met xs) (met x) (derived-within d (within-left (numbers xs) (numbers x) g)) (derived-within e (within-right (numbers xs) (numbers x) g)))
 
 -- ---- at least one
-
-pub times-some : (r : Repeat) → AllWithin (repeatNumbers r) → 1 ≤ times r
-times-some Repeat.absent h = omega arith
-times-some (Repeat.given n) h = h .0 .0
 
 derived-some : {s : List ℕ} {k : Nonterminal} {l a b : ℕ} {x : Items} → Derives s k l a x b → AllWithin (numbers x) → 0 < length (met x)
 unfolding met numbers

@@ -13,7 +13,7 @@ use lib.ListN.{length, getD}
 use Rattle.number.specs.Digits.{isDigit, Digits, value}
 use Rattle.number.proofs.DigitLaws.{value-none}
 use Rattle.format_grammar.specs.Characters.{quotationMark, apostrophe}
-use Rattle.format_grammar.specs.Items.{Number, number, valueOf, Repeat, Items}
+use Rattle.format_items.specs.Items.{Number, number, valueOf, Repeat, Items}
 use Rattle.format_grammar.specs.Grammar.{At, part, NumberAt, RepeatAt, Mark}
 use Rattle.format_grammar.specs.Reading.{Use, Mode, Open, State, Reading, step, stepWithin, unlessDead, wanted, written, begun, used, separated, readAt}
 use Rattle.format_grammar.proofs.ReadLaws.{read-step, read-byte, read-same, step-digit, step-used}

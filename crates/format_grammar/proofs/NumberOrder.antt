@@ -10,11 +10,11 @@ use lib.Dec.{eqb}
 use Rattle.buffer.specs.Characters.{decimalPoint}
 use Rattle.number.specs.Digits.{isDigit}
 use Rattle.format_grammar.specs.Characters.{quotationMark, apostrophe, openingBracket, closingBracket, comma, slashSign, letterA, letterF, letterI, letterL, letterT, letterX}
-use Rattle.format_grammar.specs.Items.{Number, Repeat, Field, Items}
+use Rattle.format_items.specs.Items.{Number, Repeat, Field, Items}
 use Rattle.format_grammar.specs.Grammar.{At, NumberAt, RepeatAt, FieldAt, Nonterminal, Derives}
-use Rattle.format_grammar.specs.Ranges.{Ranged, ranged, repeatNumbers, fieldNumbers, numbers}
+use Rattle.format_items.specs.Ranges.{Ranged, ranged, repeatNumbers, fieldNumbers, numbers}
 use Rattle.format_grammar.specs.Promises.{NoNumber, NoDigit, InOrder, NumbersInOrder}
-use Rattle.format_grammar.proofs.ItemLaws.{numbers-join}
+use Rattle.format_items.proofs.ItemLaws.{numbers-join}
 
 -- ---- one after the other
 

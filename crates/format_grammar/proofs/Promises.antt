@@ -8,21 +8,21 @@ use native.Mathlib.Omega.{arith}
 use borrow.Author.Tests.{lt-ltb, le-ltb, ltb-true, ltb-false}
 use lib.Dec.{ltb}
 use lib.ListN.{length}
-use Rattle.format_grammar.specs.Items.{Items}
+use Rattle.format_items.specs.Items.{Items}
 use Rattle.format_grammar.specs.Grammar.{Format}
-use Rattle.format_grammar.specs.Ranges.{numbers, FirstOutside, nowhere, at, firstOutside, AllWithin}
-use Rattle.format_grammar.specs.Size.{size, largestSize}
+use Rattle.format_items.specs.Ranges.{numbers, FirstOutside, nowhere, at, firstOutside, AllWithin}
+use Rattle.format_items.specs.Size.{size, largestSize}
 use Rattle.format_grammar.specs.Reading.{Reading, items, wrong, reading}
-use Rattle.format_grammar.specs.Check.{longestFormat, Outcome, accepted, refused, checkSize, checkRange, checkGrammar, outcome, refusalNumber, refusalPlace, outcomeNumber, outcomePlace}
-use Rattle.format_grammar.specs.declared.FormatRefusal.{FormatRefusal}
-use Rattle.format_grammar.specs.declared.FormatRefusal.the-variants.{Length, Grammar, Range, Size}
-use Rattle.format_grammar.specs.Promises.{Answers, Acceptable, TooLong, NotGrammatical, OutOfRange, TooLarge, AnsweredBy, AcceptsExactly, OneReading, LengthRefused, GrammarRefused, RangeRefused, SizeRefused, AlwaysAnswered, NumbersInOrder, MetIsSize, MetInRange, ReturnPartIs, ReturnIndexIs}
+use Rattle.format_grammar.specs.Check.{Outcome, accepted, refused, checkSize, checkRange, checkGrammar, outcome, outcomeNumber, outcomePlace}
+use Rattle.format_items.specs.Refusals.{longestFormat, refusalNumber, refusalPlace}
+use Rattle.format_items.specs.declared.FormatRefusal.{FormatRefusal}
+use Rattle.format_items.specs.declared.FormatRefusal.the-variants.{Length, Grammar, Range, Size}
+use Rattle.format_grammar.specs.Promises.{Answers, Acceptable, TooLong, NotGrammatical, OutOfRange, TooLarge, AnsweredBy, AcceptsExactly, OneReading, LengthRefused, GrammarRefused, RangeRefused, SizeRefused, AlwaysAnswered, NumbersInOrder, MetInRange}
 use Rattle.format_grammar.proofs.Complete.{complete}
 use Rattle.format_grammar.proofs.Sound.{sound}
 use Rattle.format_grammar.proofs.Place.{place-is, one-place}
-use Rattle.format_grammar.proofs.RangeLaws.{all-nowhere, nowhere-all, at-first, first-at}
+use Rattle.format_items.proofs.RangeLaws.{all-nowhere, nowhere-all, at-first, first-at}
 use Rattle.format_grammar.proofs.NumberOrder
-use Rattle.format_grammar.proofs.MetLaws
 use Rattle.format_grammar.proofs.MetRanges
 
 pub one-reading : OneReading
@@ -31,17 +31,8 @@ one-reading s xs ys f g = let a = complete f in let b = complete g in cc
 pub numbers-in-order : NumbersInOrder
 numbers-in-order = NumberOrder.numbers-in-order
 
-pub met-is-size : MetIsSize
-met-is-size = MetLaws.met-is-size
-
 pub met-in-range : MetInRange
 met-in-range = MetRanges.met-in-range
-
-pub return-part-is : ReturnPartIs
-return-part-is = MetLaws.return-part-is
-
-pub return-index-is : ReturnIndexIs
-return-index-is = MetLaws.return-index-is
 
 -- ---- what the outcome says of the text
 

@@ -4,11 +4,11 @@ use mathlib.Core.Path.{_≡_}
 use mathlib.Core.List.{List}
 use Prim.Native.Nat.{ℕ, _+_, _≤_}
 use lib.ListN.{length}
-use Rattle.buffer.specs.Characters.{decimalPoint}
+use Rattle.buffer.specs.Characters.{decimalPoint, Printable}
 use Rattle.number.specs.Digits.{Digits, value}
 use Rattle.format_grammar.specs.Characters.{openingBracket, closingBracket, comma, letterA, letterF, letterI, letterL, letterT}
-use Rattle.format_grammar.specs.Items.{Number, Repeat, Items}
-use Rattle.format_grammar.specs.Grammar.{At, part, NumberAt, RepeatAt, Mark, Printable, doubled, Nonterminal, Derives}
+use Rattle.format_items.specs.Items.{Number, Repeat, Items}
+use Rattle.format_grammar.specs.Grammar.{At, part, NumberAt, RepeatAt, Mark, doubled, Nonterminal, Derives}
 use Rattle.format_grammar.specs.Reading.{Use, Mode, Open, State}
 
 -- what stands in a bracket where an item may begin: nothing, or items and a comma

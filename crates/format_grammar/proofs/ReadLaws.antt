@@ -12,7 +12,7 @@ use lib.Dec.{ltb}
 use lib.ListN.{length, getD, drop, drop-of-length-le}
 use lib.Seq.{drop-cons}
 use Rattle.number.specs.Digits.{isDigit}
-use Rattle.format_grammar.specs.Items.{Items}
+use Rattle.format_items.specs.Items.{Items}
 use Rattle.format_grammar.specs.Grammar.{At}
 use Rattle.format_grammar.specs.Reading.{Use, Mode, Open, State, Reading, step, stepWithin, final, unlessDead, used, written, close, readFrom, readAt}
 

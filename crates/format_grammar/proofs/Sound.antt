@@ -5,7 +5,7 @@ use mathlib.Core.List.{List}
 use Prim.Native.Nat.{ℕ, zero, suc, _+_}
 use native.Mathlib.Omega.{arith}
 use lib.ListN.{length, getD}
-use Rattle.format_grammar.specs.Items.{Items}
+use Rattle.format_items.specs.Items.{Items}
 use Rattle.format_grammar.specs.Grammar.{Format}
 use Rattle.format_grammar.specs.Reading.{State, Reading, step, final, unlessDead, readAt, reading}
 use Rattle.format_grammar.proofs.ReadLaws.{read-one, read-end}

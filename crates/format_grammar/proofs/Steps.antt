@@ -12,11 +12,12 @@ use Rattle.buffer.specs.Characters.{decimalPoint}
 use Rattle.number.specs.Digits.{isDigit}
 use Rattle.number.proofs.DigitLaws.{value-none, digit-bounds}
 use Rattle.format_grammar.specs.Characters.{letterI, letterF, letterL, letterA, openingBracket, letterX, letterT, slashSign, apostrophe, quotationMark, closingBracket, comma}
-use Rattle.format_grammar.specs.Items.{number, Repeat, Items, join}
+use Rattle.format_items.specs.Items.{number, Repeat, Items, join}
 use Rattle.format_grammar.specs.Grammar.{At, NumberAt, RepeatAt, FieldAt, Mark, doubled, Nonterminal, Derives}
 use Rattle.format_grammar.specs.Reading.{Use, Mode, Open, State, step, stepWithin, written, separated, onlyAbsent, skipped, opened, begun, pointed, used, close, isEmpty}
 use Rattle.format_grammar.proofs.PartLaws.{part-none, value-more, digits-more}
-use Rattle.format_grammar.proofs.Cases.{pick-cases, and-true, is-mark}
+use Rattle.format_grammar.proofs.Cases.{pick-cases, is-mark}
+use Rattle.buffer.proofs.Tests.{and-true}
 use Rattle.format_grammar.proofs.LiteralSteps.{plain-at, doubled-at, literal-at}
 use Rattle.format_grammar.proofs.Reached.{Before, Bracket, Begun, UsedAt, DigitsAt, InsideAt, Reached}
 

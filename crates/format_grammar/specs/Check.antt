@@ -6,16 +6,13 @@ use mathlib.Core.List.{List}
 use Prim.Native.Nat.{ℕ}
 use lib.Dec.{ltb}
 use lib.ListN.{length}
-use Rattle.format_grammar.specs.Items.{Items}
-use Rattle.format_grammar.specs.Ranges.{numbers, FirstOutside, nowhere, at, firstOutside}
-use Rattle.format_grammar.specs.Size.{size, largestSize}
+use Rattle.format_items.specs.Items.{Items}
+use Rattle.format_items.specs.Ranges.{numbers, FirstOutside, nowhere, at, firstOutside}
+use Rattle.format_items.specs.Size.{size, largestSize}
 use Rattle.format_grammar.specs.Reading.{Reading, items, wrong, reading}
-use Rattle.format_grammar.specs.declared.FormatRefusal.{FormatRefusal}
-use Rattle.format_grammar.specs.declared.FormatRefusal.the-variants.{Length, Grammar, Range, Size}
-
--- 'At most 1,024 bytes.'
-abbrev pub longestFormat : ℕ
-longestFormat = 1024
+use Rattle.format_items.specs.Refusals.{longestFormat, refusalNumber, refusalPlace}
+use Rattle.format_items.specs.declared.FormatRefusal.{FormatRefusal}
+use Rattle.format_items.specs.declared.FormatRefusal.the-variants.{Length, Grammar, Range, Size}
 
 -- accepted as items, or refused
 pub data Outcome : Type 0 where
@@ -41,20 +38,7 @@ checkGrammar (items xs) = checkRange (firstOutside (numbers xs)) xs
 unfoldable pub outcome : List ℕ → Outcome
 outcome s = cond (ltb longestFormat (length s)) (refused Length) (checkGrammar (reading s))
 
--- the table's columns 'No.' and 'Place'
-abbrev pub refusalNumber : FormatRefusal → ℕ
-refusalNumber Length = 2
-refusalNumber (Grammar p) = 3
-refusalNumber (Range p) = 4
-refusalNumber Size = 5
-
-abbrev pub refusalPlace : FormatRefusal → ℕ
-refusalPlace Length = longestFormat
-refusalPlace (Grammar p) = p
-refusalPlace (Range p) = p
-refusalPlace Size = 0
-
--- the same of an outcome: '0 for an accepted format check', and 0 for the place that it does not have
+-- the number and the place of an outcome: '0 for an accepted format check', and 0 for the place that it does not have
 abbrev pub outcomeNumber : Outcome → ℕ
 outcomeNumber (accepted xs) = 0
 outcomeNumber (refused why) = refusalNumber why

@@ -16,10 +16,10 @@ use mathlib.Core.List.{List, [], _∷_, _++_}
 use Prim.Native.Nat.{ℕ, _+_, _-_, _<_, _≤_}
 use lib.Dec.{eqb}
 use lib.ListN.{length, getD, take, drop}
-use Rattle.buffer.specs.Characters.{decimalPoint}
+use Rattle.buffer.specs.Characters.{decimalPoint, Printable}
 use Rattle.number.specs.Digits.{Digits, value}
 use Rattle.format_grammar.specs.Characters.{quotationMark, apostrophe, openingBracket, closingBracket, comma, slashSign, letterA, letterF, letterI, letterL, letterT, letterX}
-use Rattle.format_grammar.specs.Items.{Number, number, Repeat, Field, Items, join}
+use Rattle.format_items.specs.Items.{Number, number, Repeat, Field, Items, join}
 
 -- the byte c stands at offset a
 pub record At (s : List ℕ) (a c : ℕ) : Type 0 where
@@ -54,11 +54,6 @@ pub data FieldAt (s : List ℕ) : ℕ → Field Number → ℕ → Type 0 where
 -- 'between apostrophes or between quotation marks'
 abbrev pub Mark : ℕ → Type 0
 Mark m = (m ≡ apostrophe) ⊎ (m ≡ quotationMark)
-
--- 'bytes 32 to 126'
-abbrev pub Printable : List ℕ → Type 0
-Printable [] = Unit {0}
-Printable (c ∷ cs) = (32 ≤ c) × (c ≤ 126) × Printable cs
 
 -- 'the enclosing mark is doubled inside'
 unfoldable pub doubled : ℕ → List ℕ → List ℕ

@@ -1,9 +1,5 @@
 pub mod Characters
-pub mod Items
 pub mod Grammar
-pub mod Ranges
-pub mod Size
-pub mod Met
 pub mod Reading
 pub mod Check
 pub mod Promises

@@ -3,28 +3,21 @@
 use mathlib.Core.Path.{_≡_}
 use mathlib.Core.Logic.{_↔_}
 use mathlib.Core.Bool.{false}
-use mathlib.Core.List.{List, [], _∷_, _++_}
+use mathlib.Core.List.{List, [], _∷_}
 use Prim.Native.Nat.{ℕ, _+_, _<_, _≤_}
-use lib.ListN.{length, drop, getD}
+use lib.ListN.{length, getD}
 use Rattle.number.specs.Digits.{isDigit}
-use Rattle.format_grammar.specs.Items.{Number, number, Repeat, Field, Items, join}
-use Rattle.format_grammar.specs.Grammar.{At, NumberAt, Mark, LiteralAt, Printable, Format, LongestShared}
-use Rattle.format_grammar.specs.Ranges.{Ranged, ranged, rangeN, rangeW, rangeD, place, numbers, Within, AllWithin}
-use Rattle.format_grammar.specs.Size.{size, largestSize}
-use Rattle.format_grammar.specs.Met.{Met, met, returnPart, returnIndex}
-use Rattle.format_grammar.specs.Check.{longestFormat, accepted, outcome, outcomeNumber, outcomePlace}
+use Rattle.format_items.specs.Items.{Number, Items}
+use Rattle.format_grammar.specs.Grammar.{At, NumberAt, Mark, LiteralAt, Format, LongestShared}
+use Rattle.format_items.specs.Ranges.{Ranged, ranged, numbers, AllWithin}
+use Rattle.format_items.specs.Size.{size, largestSize}
+use Rattle.format_items.specs.Met.{met}
+use Rattle.format_grammar.specs.Check.{accepted, outcome, outcomeNumber, outcomePlace}
+use Rattle.format_items.specs.MetRanges.{AllMetWithin}
+use Rattle.format_items.specs.Refusals.{longestFormat}
+use Rattle.format_items.specs.Promises.{FirstOutsideAt}
 
 -- ---- numbers and their ranges
-
--- the first number that is not within its range stands at offset p
-pub record FirstOutsideAt (ns : List Ranged) (p : ℕ) : Type 0 where
-  pub before : List Ranged
-  pub n : Ranged
-  pub after : List Ranged
-  pub split : ns ≡ before ++ n ∷ after
-  pub before-within : AllWithin before
-  pub not-within : Within n → ⊥
-  pub stands : place n ≡ p
 
 -- from a up to b stand literals, and bytes that are neither digits nor marks
 pub data NoNumber (s : List ℕ) : ℕ → ℕ → Type 0 where
@@ -121,43 +114,6 @@ AlwaysAnswered = (s : List ℕ) → AnsweredBy s (outcomeNumber (outcome s)) (ou
 
 -- ---- the items met
 
--- as many items are met as the size says, so at most 4,096 where the format is accepted
-abbrev pub MetIsSize : Type 0
-MetIsSize = (xs : Items) → length (met xs) ≡ size xs
-
--- an item met has its numbers within their ranges, and a literal its characters. (Here a number's offset does not matter.)
-abbrev pub MetWithin : Met → Type 0
-MetWithin (Met.field (Field.I w)) = Within (rangeW (number 0 w))
-MetWithin (Met.field (Field.F w d)) = Within (rangeW (number 0 w)) × Within (rangeD (number 0 d))
-MetWithin (Met.field (Field.L w)) = Within (rangeW (number 0 w))
-MetWithin (Met.field Field.A) = Unit {0}
-MetWithin (Met.field (Field.Aw w)) = Within (rangeW (number 0 w))
-MetWithin (Met.X n) = Within (rangeN (number 0 n))
-MetWithin (Met.T n) = Within (rangeN (number 0 n))
-MetWithin Met.slash = Unit {0}
-MetWithin (Met.literal cs) = (0 < length cs) × Printable cs
-
--- every item met is so
-abbrev pub AllMetWithin : List Met → Type 0
-AllMetWithin [] = Unit {0}
-AllMetWithin (k ∷ ks) = MetWithin k × AllMetWithin ks
-
 -- the items met of an accepted format are so, and there is at least one
 abbrev pub MetInRange : Type 0
 MetInRange = (s : List ℕ) (xs : Items) → Acceptable s xs → AllMetWithin (met xs) × (0 < length (met xs))
-
--- no group stands among the items themselves
-abbrev pub NoGroup : Items → Type 0
-NoGroup xs = (before : Items) (r : Repeat) (inside after : Items) → xs ≡ join before (Items.group r inside after) → ⊥
-
--- the part to return to: all of the items where none is a group, else the rightmost group and what follows it
-pub data ReturnsTo (xs : Items) : Items → Type 0 where
-  whole : NoGroup xs → ReturnsTo xs xs
-  last : (before : Items) {inside after : Items} {r : Repeat} → xs ≡ join before (Items.group r inside after) → NoGroup after → ReturnsTo xs (Items.group r inside after)
-
-abbrev pub ReturnPartIs : Type 0
-ReturnPartIs = (xs : Items) → ReturnsTo xs (returnPart xs)
-
--- from the index on, the items met are those of the part
-abbrev pub ReturnIndexIs : Type 0
-ReturnIndexIs = (xs : Items) → drop (returnIndex xs) (met xs) ≡ met (returnPart xs)

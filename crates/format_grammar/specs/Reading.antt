@@ -11,7 +11,7 @@ use Rattle.buffer.specs.Characters.{decimalPoint, digitZero, isPrintable}
 use Rattle.number.specs.Digits.{isDigit}
 use Rattle.format_grammar.specs.Characters.{quotationMark, apostrophe, openingBracket, closingBracket, comma, slashSign, letterA, letterF, letterI, letterL, letterT, letterX}
 use Rattle.format_grammar.specs.Grammar.{levels}
-use Rattle.format_grammar.specs.Items.{Number, number, Repeat, absent, given, I, F, L, A, Aw, Items, join}
+use Rattle.format_items.specs.Items.{Number, number, Repeat, absent, given, I, F, L, A, Aw, Items, join}
 
 -- what a number is read for, with what was read of its item before
 pub data Use : Type 0 where

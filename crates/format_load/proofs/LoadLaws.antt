@@ -5,9 +5,10 @@ use mathlib.Core.List.{List, [], _∷_, map}
 use Prim.Native.Nat.{ℕ, _+_, _≤_}
 use native.Mathlib.Omega.{arith}
 use lib.ListN.{length, take}
-use Rattle.format_grammar.specs.Met.{met, returnIndex}
-use Rattle.format_grammar.specs.Promises.{AllMetWithin}
-use Rattle.format_grammar.proofs.Promises.{accepts-exactly, met-is-size, met-in-range, return-index-is}
+use Rattle.format_items.specs.Met.{met, returnIndex}
+use Rattle.format_items.specs.MetRanges.{AllMetWithin}
+use Rattle.format_items.proofs.MetLaws.{met-is-size, return-index-is}
+use Rattle.format_grammar.proofs.Promises.{accepts-exactly, met-in-range}
 use Rattle.format_words.specs.Words.{metOf, RunWords}
 use Rattle.format_run.specs.Runs.{Ran}
 use Rattle.format_check.specs.Checked.{ItemsHeld}

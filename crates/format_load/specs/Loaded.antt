@@ -4,11 +4,12 @@ use mathlib.Core.Path.{_≡_}
 use mathlib.Core.List.{List, map}
 use Prim.Native.Nat.{ℕ, _≤_}
 use lib.ListN.{length, take, drop}
-use Rattle.format_grammar.specs.Items.{Items}
-use Rattle.format_grammar.specs.Met.{met, returnPart}
-use Rattle.format_grammar.specs.Size.{largestSize}
-use Rattle.format_grammar.specs.Check.{longestFormat, accepted, refused, outcome}
-use Rattle.format_grammar.specs.Promises.{AllMetWithin}
+use Rattle.format_items.specs.Items.{Items}
+use Rattle.format_items.specs.Met.{met, returnPart}
+use Rattle.format_items.specs.Size.{largestSize}
+use Rattle.format_grammar.specs.Check.{accepted, refused, outcome}
+use Rattle.format_items.specs.Refusals.{longestFormat}
+use Rattle.format_items.specs.MetRanges.{AllMetWithin}
 use Rattle.format_words.specs.Words.{metOf, RunWords}
 use Rattle.format_load.specs.declared.Loading.{Loading}
 use Rattle.format_load.specs.declared.Loading.the-variants.{Refused, Larger, Run}

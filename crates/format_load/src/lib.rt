@@ -1,7 +1,7 @@
 // A format loaded: its text checked, and its items unrolled into a run of words.
 pub mod load;
 
-use format_grammar::FormatRefusal;
+use format_items::FormatRefusal;
 
 // What loading answers.
 pub enum Loading {

@@ -2,9 +2,9 @@
 use crate::Loading;
 use format_check::ItemsChecked;
 use format_check::items::check_items;
-use format_grammar::FormatRefusal;
 use format_grammar::LEVELS;
-use format_grammar::LONGEST_FORMAT;
+use format_items::FormatRefusal;
+use format_items::LONGEST_FORMAT;
 use format_run::unroll::unroll;
 ghost use lib.ListN.{length};
 ghost use Rattle.format_load.specs.Loaded.{loaded};

@@ -6,9 +6,9 @@ use Prim.Native.Nat.{ℕ, _+_, _*_, _<_}
 use native.Mathlib.Omega.{arith}
 use borrow.Author.Tests.{ne-eqb}
 use lib.ListN.{length, getD}
-use Rattle.format_grammar.specs.Items.{number, Repeat, times, Items, join}
-use Rattle.format_grammar.specs.Ranges.{ranged, repeatNumbers, numbers}
-use Rattle.format_grammar.specs.Met.{Met}
+use Rattle.format_items.specs.Items.{number, Repeat, times, Items, join}
+use Rattle.format_items.specs.Ranges.{ranged, repeatNumbers, numbers}
+use Rattle.format_items.specs.Met.{Met}
 use Rattle.format_grammar.specs.Reading.{Use, Mode, Open, State, wanted, written, begun}
 use Rattle.format_words.specs.Words.{metOf}
 use Rattle.format_words.specs.Held.{First}

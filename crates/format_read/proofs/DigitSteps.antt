@@ -10,7 +10,7 @@ use lib.Dec.{ltb}
 use lib.ListN.{length, getD}
 use Rattle.number.specs.Digits.{isDigit}
 use Rattle.number.proofs.DigitLaws.{digit-bounds}
-use Rattle.format_grammar.specs.Items.{Items}
+use Rattle.format_items.specs.Items.{Items}
 use Rattle.format_grammar.specs.Reading.{Use, Mode, Open, State, readAt}
 use Rattle.format_grammar.proofs.NumberLaws.{not-digit}
 use Rattle.format_grammar.proofs.ReadLaws.{read-step, step-digit}

@@ -7,10 +7,10 @@ use native.Mathlib.Omega.{arith}
 use borrow.Author.Tests.{ne-eqb}
 use lib.ListN.{length, getD, take, set, length-set}
 use lib.Seq.{getD-set-same, getD-set-other, take-set-le, take-take, getD-take}
-use Rattle.format_grammar.specs.Items.{times, Items, join}
-use Rattle.format_grammar.specs.Ranges.{repeatNumbers, numbers}
+use Rattle.format_items.specs.Items.{times, Items, join}
+use Rattle.format_items.specs.Ranges.{repeatNumbers, numbers}
 use Rattle.format_grammar.specs.Reading.{Mode, Open, State, step, stepWithin, wanted, close, readAt}
-use Rattle.format_grammar.proofs.ItemLaws.{join-assoc, join-right, numbers-join}
+use Rattle.format_items.proofs.ItemLaws.{join-assoc, join-right, numbers-join}
 use Rattle.format_grammar.proofs.ReadLaws.{read-step, read-dead, read-end, close-live}
 use Rattle.format_words.specs.Words.{word, entry}
 use Rattle.format_words.specs.Held.{GroupEntry, Holds}

@@ -9,8 +9,8 @@ use native.Mathlib.Omega.{arith}
 use borrow.Author.Tests.{eq-eqb, ne-eqb, eqb-false}
 use lib.Dec.{eqb}
 use lib.ListN.{length, getD}
-use Rattle.format_grammar.specs.Items.{number, Repeat, times, Items}
-use Rattle.format_grammar.specs.Ranges.{repeatNumbers}
+use Rattle.format_items.specs.Items.{number, Repeat, times, Items}
+use Rattle.format_items.specs.Ranges.{repeatNumbers}
 use Rattle.format_grammar.specs.Reading.{Use, Open, State, Reading, wanted, written, readAt}
 use Rattle.format_read.specs.Steps.{NumberFound, outsideAfter, Stuck, NoBracketOrMark, Opened}
 use Rattle.format_read.specs.declared.Position.{Position}

@@ -9,7 +9,7 @@ use native.Mathlib.Omega.{arith}
 use borrow.Author.Tests.{eq-eqb, ne-eqb, le-leb, lt-leb}
 use lib.ListN.{length, getD, take, set, length-append, length-set}
 use lib.Seq.{take-suc-set}
-use Rattle.format_grammar.specs.Items.{Items, join}
+use Rattle.format_items.specs.Items.{Items, join}
 use Rattle.format_grammar.specs.Reading.{Mode, Open, State, step, stepWithin, isEmpty, readAt}
 use Rattle.format_grammar.proofs.ReadLaws.{read-step, read-dead, read-end, read-same}
 use Rattle.format_read.specs.Steps.{Stuck, LiteralFound}

@@ -9,9 +9,9 @@ use native.Mathlib.Omega.{arith}
 use borrow.Author.Tests.{eq-eqb, ne-eqb}
 use lib.Dec.{eqb}
 use lib.ListN.{length, getD}
-use Rattle.format_grammar.specs.Items.{Number, number, valueOf, Repeat, times, Field, Items, join}
-use Rattle.format_grammar.specs.Ranges.{Ranged, ranged, repeatNumbers, fieldNumbers, numbers}
-use Rattle.format_grammar.specs.Met.{Met, fieldValues}
+use Rattle.format_items.specs.Items.{Number, number, valueOf, Repeat, times, Field, Items, join}
+use Rattle.format_items.specs.Ranges.{Ranged, ranged, repeatNumbers, fieldNumbers, numbers}
+use Rattle.format_items.specs.Met.{Met, fieldValues}
 use Rattle.format_grammar.specs.Reading.{Use, Mode, Open, State, Reading, pick, step, stepWithin, unlessDead, written, used, separated, readAt}
 use Rattle.format_grammar.proofs.NumberLaws.{written-absent, written-given}
 use Rattle.format_grammar.proofs.ReadLaws.{read-step, read-end, read-same, read-stuck, step-used}

@@ -8,9 +8,9 @@ use native.Mathlib.Omega.{arith}
 use lib.Dec.{eqb}
 use lib.ListN.{length, getD, take, drop, set, length-set}
 use lib.Seq.{getD-set-same, take-set-le, take-take, take-append-le, drop-at, length-take-le}
-use Rattle.format_grammar.specs.Items.{Items}
-use Rattle.format_grammar.specs.Ranges.{numbers}
-use Rattle.format_grammar.specs.Met.{Met}
+use Rattle.format_items.specs.Items.{Items}
+use Rattle.format_items.specs.Ranges.{numbers}
+use Rattle.format_items.specs.Met.{Met}
 use Rattle.format_grammar.specs.Reading.{Mode, Open, State, Reading, wanted, readAt}
 use Rattle.format_grammar.proofs.Cases.{is-mark}
 use Rattle.format_grammar.proofs.LiteralLaws.{step-open}

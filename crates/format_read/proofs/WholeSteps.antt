@@ -7,8 +7,8 @@ use Prim.Native.Nat.{ℕ, _+_, _<_, _≤_}
 use native.Mathlib.Omega.{arith}
 use borrow.Author.Tests.{ne-eqb}
 use lib.ListN.{length, getD}
-use Rattle.format_grammar.specs.Items.{Items, join}
-use Rattle.format_grammar.specs.Ranges.{Ranged, outside, place, FirstOutside, firstOutside, numbers}
+use Rattle.format_items.specs.Items.{Items, join}
+use Rattle.format_items.specs.Ranges.{Ranged, outside, place, FirstOutside, firstOutside, numbers}
 use Rattle.format_grammar.specs.Reading.{Open, State, Reading, step, wanted, close, readAt, reading}
 use Rattle.format_grammar.proofs.ReadLaws.{read-step, read-dead, read-end}
 use Rattle.format_read.specs.Steps.{outsideAfter, Took}

@@ -8,9 +8,9 @@ use lib.Dec.{ltb, eqb}
 use lib.ListN.{length, getD, take}
 use Rattle.number.specs.Digits.{isDigit}
 use Rattle.format_grammar.specs.Characters.{openingBracket, apostrophe, quotationMark, letterI, letterF, letterL, letterA}
-use Rattle.format_grammar.specs.Items.{Number, valueOf, Repeat, times, Items, join}
-use Rattle.format_grammar.specs.Ranges.{Ranged, ranged, outside, place, repeatNumbers, numbers}
-use Rattle.format_grammar.specs.Met.{Met}
+use Rattle.format_items.specs.Items.{Number, valueOf, Repeat, times, Items, join}
+use Rattle.format_items.specs.Ranges.{Ranged, ranged, outside, place, repeatNumbers, numbers}
+use Rattle.format_items.specs.Met.{Met}
 use Rattle.format_grammar.specs.Reading.{Use, Mode, Open, State, Reading, wanted, separated, used, readAt}
 use Rattle.format_words.specs.Words.{word, wordBound, kindOf, metOf}
 use Rattle.format_words.specs.Held.{First, Holds}

@@ -4,9 +4,9 @@ use mathlib.Core.Path.{_≡_}
 use mathlib.Core.List.{List}
 use Prim.Native.Nat.{ℕ, _+_, _≤_}
 use lib.ListN.{length}
-use Rattle.format_grammar.specs.Items.{Items}
+use Rattle.format_items.specs.Items.{Items}
 use Rattle.format_grammar.specs.Grammar.{levels}
-use Rattle.format_grammar.specs.Ranges.{FirstOutside, nowhere, at, numbers, firstOutside}
+use Rattle.format_items.specs.Ranges.{FirstOutside, nowhere, at, numbers, firstOutside}
 use Rattle.format_grammar.specs.Reading.{items, wrong, reading}
 use Rattle.format_words.specs.Held.{Holds}
 use Rattle.format_read.specs.declared.Position.{Position}

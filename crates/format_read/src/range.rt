@@ -1,8 +1,8 @@
 // Ranges of numbers.
 ghost use mathlib.Core.Path.{_≡_};
 ghost use Prim.Native.Nat.{_<_};
-ghost use Rattle.format_grammar.specs.Items.{number};
-ghost use Rattle.format_grammar.specs.Ranges.{ranged};
+ghost use Rattle.format_items.specs.Items.{number};
+ghost use Rattle.format_items.specs.Ranges.{ranged};
 ghost use Rattle.format_read.specs.Steps.{keepFirst};
 
 // The first number out of range, after the number at `at` too.

@@ -2,9 +2,9 @@
 use crate::Single;
 use crate::digits::read_number;
 use crate::range::first_outside;
-use format_grammar::LARGEST_COUNT;
-use format_grammar::LARGEST_PLACES;
-use format_grammar::LARGEST_WIDTH;
+use format_items::LARGEST_COUNT;
+use format_items::LARGEST_PLACES;
+use format_items::LARGEST_WIDTH;
 use format_words::FIRST_BASE;
 use format_words::KIND_A;
 use format_words::KIND_AW;
@@ -19,8 +19,8 @@ ghost use mathlib.Core.Path.{_≡_};
 ghost use mathlib.Core.List.{[]};
 ghost use Prim.Native.Nat.{ℕ, _+_, _<_, _≤_};
 ghost use lib.ListN.{length, getD};
-ghost use Rattle.format_grammar.specs.Items.{Repeat, times};
-ghost use Rattle.format_grammar.specs.Ranges.{repeatNumbers};
+ghost use Rattle.format_items.specs.Items.{Repeat, times};
+ghost use Rattle.format_items.specs.Ranges.{repeatNumbers};
 ghost use Rattle.format_grammar.specs.Reading.{Use, written, wanted};
 ghost use Rattle.format_read.specs.Steps.{NumberFound, Ends, ended, itemRead, NoBracketOrMark, NoFieldLetter, outsideAfter};
 

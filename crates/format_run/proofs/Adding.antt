@@ -7,8 +7,8 @@ use native.Mathlib.Decide.{decLe}
 use native.Mathlib.Nat.{mul-le-mul, zero-mul, suc-mul}
 use native.Mathlib.Omega.{arith}
 use lib.ListN.{getD}
-use Rattle.format_grammar.specs.Items.{Items}
-use Rattle.format_grammar.specs.Size.{size}
+use Rattle.format_items.specs.Items.{Items}
+use Rattle.format_items.specs.Size.{size}
 use Rattle.format_words.specs.Words.{kindOf, wordOf, repeatOf}
 use Rattle.format_words.specs.Held.{Holds, Held}
 use Rattle.format_run.specs.Sizes.{capped}

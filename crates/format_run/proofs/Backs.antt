@@ -4,11 +4,11 @@ use mathlib.Core.Path.{_≡_, refl, ap, _∙_}
 use mathlib.Core.Bool.{Bool, true, false, cond}
 use Prim.Native.Nat.{ℕ, _+_, _-_, _*_, _≤_}
 use native.Mathlib.Omega.{arith}
-use Rattle.format_grammar.specs.Items.{Repeat, times, Items}
-use Rattle.format_grammar.specs.Size.{size}
-use Rattle.format_grammar.specs.Met.{Met, hasGroup, fromLastGroup, returnPart, returnIndex}
+use Rattle.format_items.specs.Items.{Repeat, times, Items}
+use Rattle.format_items.specs.Size.{size}
+use Rattle.format_items.specs.Met.{Met, hasGroup, fromLastGroup, returnPart, returnIndex}
 use Rattle.format_words.specs.Held.{First}
-use Rattle.format_grammar.proofs.MetLaws.{met-is-size}
+use Rattle.format_items.proofs.MetLaws.{met-is-size}
 use Rattle.format_run.proofs.FirstLaws.{size-group, first-adds}
 
 last-size : (xs : Items) → size (fromLastGroup xs) ≤ size xs

@@ -5,12 +5,11 @@ use mathlib.Core.List.{[], _∷_, _++_}
 use Prim.Native.Nat.{ℕ, zero, suc, _+_, _-_, _*_, _≤_}
 use native.Mathlib.Omega.{arith}
 use lib.ListN.{replicate}
-use Rattle.format_grammar.specs.Items.{Repeat, times, Items}
-use Rattle.format_grammar.specs.Ranges.{numbers, repeatNumbers, fieldNumbers, AllWithin}
-use Rattle.format_grammar.specs.Size.{size}
-use Rattle.format_grammar.specs.Met.{Met, repeat, met, hasGroup, fromLastGroup}
-use Rattle.format_grammar.proofs.RangeLaws.{within-left, within-right}
-use Rattle.format_grammar.proofs.MetRanges.{times-some}
+use Rattle.format_items.specs.Items.{Repeat, times, Items}
+use Rattle.format_items.specs.Ranges.{numbers, repeatNumbers, fieldNumbers, AllWithin}
+use Rattle.format_items.specs.Size.{size}
+use Rattle.format_items.specs.Met.{Met, repeat, met, hasGroup, fromLastGroup}
+use Rattle.format_items.proofs.RangeLaws.{within-left, within-right, times-some}
 use Rattle.format_words.specs.Held.{First}
 
 -- ---- a first item that is no group

@@ -8,9 +8,9 @@ use native.Mathlib.Numerals.{add-one}
 use native.Mathlib.Omega.{arith}
 use lib.ListN.{length, take, drop, getD, set, length-drop, length-set, List·getD-append}
 use lib.Seq.{length-take-le, take-all, take-at, take-add, take-suc, take-suc-set, getD-take, getD-append-add}
-use Rattle.format_grammar.specs.Met.{repeat}
+use Rattle.format_items.specs.Met.{repeat}
 use Rattle.format_run.specs.Runs.{Repeatable, Repeated}
-use Rattle.format_grammar.proofs.MetLaws.{length-repeat}
+use Rattle.format_items.proofs.MetLaws.{length-repeat}
 
 -- ---- a list several times
 

@@ -7,10 +7,10 @@ use native.Mathlib.Numerals.{add-one}
 use native.Mathlib.Omega.{arith}
 use lib.ListN.{length, take, drop, set, length-append}
 use lib.Seq.{length-take-le, take-take, take-at, take-add, drop-at, take-suc-set}
-use Rattle.format_grammar.specs.Met.{Met, repeat}
+use Rattle.format_items.specs.Met.{Met, repeat}
 use Rattle.format_words.specs.Words.{metOf, RunWord, RunWords}
 use Rattle.format_run.specs.Runs.{Repeated, Ran}
-use Rattle.format_grammar.proofs.MetLaws.{length-repeat}
+use Rattle.format_items.proofs.MetLaws.{length-repeat}
 
 pub ran-none : {t : List ℕ} {c : ℕ} {run : List ℕ} {n : ℕ} → Ran t c run n [] run n
 ran-none {run} {n} = record { words = []; sound = tt; count = omega arith; is = sym (append-nil (take n run)); mean = refl }

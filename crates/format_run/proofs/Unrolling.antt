@@ -6,14 +6,14 @@ use Prim.Native.Nat.{ℕ, _+_, _-_, _*_, _<_, _≤_}
 use native.Mathlib.Nat.{mul-one}
 use native.Mathlib.Omega.{arith}
 use lib.ListN.{length, getD, set, replicate, length-append, length-set}
-use Rattle.format_grammar.specs.Items.{times, Items}
-use Rattle.format_grammar.specs.Ranges.{numbers, AllWithin}
-use Rattle.format_grammar.specs.Size.{size}
-use Rattle.format_grammar.specs.Met.{Met, repeat, met, returnIndex}
+use Rattle.format_items.specs.Items.{times, Items}
+use Rattle.format_items.specs.Ranges.{numbers, AllWithin}
+use Rattle.format_items.specs.Size.{size}
+use Rattle.format_items.specs.Met.{Met, repeat, met, returnIndex}
 use Rattle.format_words.specs.Words.{kindOf, wordOf, repeatOf}
 use Rattle.format_words.specs.Held.{Holds}
 use Rattle.format_run.specs.Runs.{Repeatable, Repeated, Fits, Ran}
-use Rattle.format_grammar.proofs.MetLaws.{met-is-size, length-repeat}
+use Rattle.format_items.proofs.MetLaws.{met-is-size, length-repeat}
 use Rattle.format_run.proofs.FirstLaws.{repeat-one, some-first, within-first, size-group, met-group, some-group, within-inside, within-next, first-adds}
 use Rattle.format_run.proofs.Views.{endOf, Group, as-group, Other, as-other, none-left}
 use Rattle.format_run.proofs.Repeating.{once-at-most}

@@ -5,8 +5,8 @@ use mathlib.Core.List.{List}
 use Prim.Native.Nat.{ℕ, _+_, _-_, _<_, _≤_}
 use native.Mathlib.Omega.{arith}
 use lib.ListN.{length, getD}
-use Rattle.format_grammar.specs.Items.{Repeat, times, Items}
-use Rattle.format_grammar.specs.Met.{Met}
+use Rattle.format_items.specs.Items.{Repeat, times, Items}
+use Rattle.format_items.specs.Met.{Met}
 use Rattle.format_words.specs.Words.{kindOf, firstOf, wordOf, repeatOf, metOf, RunWord}
 use Rattle.format_words.specs.Held.{First, Holds}
 use Rattle.format_words.proofs.HeldLaws.{holds-le}

@@ -1,13 +1,13 @@
 -- A run: the items met, as words one after another.
 -- Assumes nothing.
 use mathlib.Core.Path.{_≡_}
-use mathlib.Core.List.{List, [], _∷_, _++_, map}
+use mathlib.Core.List.{List, _++_, map}
 use Prim.Native.Nat.{ℕ, _+_, _-_, _*_, _<_, _≤_}
 use lib.ListN.{length, take, drop}
-use Rattle.format_grammar.specs.Items.{Items}
-use Rattle.format_grammar.specs.Ranges.{numbers, AllWithin}
-use Rattle.format_grammar.specs.Size.{size}
-use Rattle.format_grammar.specs.Met.{Met, repeat}
+use Rattle.format_items.specs.Items.{Items}
+use Rattle.format_items.specs.Ranges.{numbers, AllWithin}
+use Rattle.format_items.specs.Size.{size}
+use Rattle.format_items.specs.Met.{Met, repeat}
 use Rattle.format_words.specs.Words.{metOf, RunWords}
 use Rattle.format_words.specs.Held.{Holds}
 

@@ -6,8 +6,8 @@ use format_words::REPEAT_BASE;
 ghost use mathlib.Core.Path.{_≡_};
 ghost use mathlib.Core.List.{List};
 ghost use Prim.Native.Nat.{ℕ, _+_};
-ghost use Rattle.format_grammar.specs.Items.{Items};
-ghost use Rattle.format_grammar.specs.Met.{met, returnIndex};
+ghost use Rattle.format_items.specs.Items.{Items};
+ghost use Rattle.format_items.specs.Met.{met, returnIndex};
 ghost use Rattle.format_words.specs.Held.{Holds};
 ghost use Rattle.format_run.specs.Runs.{Repeatable, Repeated, Fits, Ran};
 

@@ -11,8 +11,8 @@ use borrow.Author.Tests.{eq-eqb, eqb-false}
 use lib.Dec.{eqb}
 use lib.ListN.{length, getD, take, drop}
 use lib.Seq.{take-take, take-nil}
-use Rattle.format_grammar.specs.Items.{times, Items, join}
-use Rattle.format_grammar.specs.Met.{Met}
+use Rattle.format_items.specs.Items.{times, Items, join}
+use Rattle.format_items.specs.Met.{Met}
 use Rattle.format_words.specs.Words.{pickMet, kindOf, firstOf, secondOf, wordOf, metOf, reach}
 use Rattle.format_words.specs.Held.{First, Single, GroupEntry, Holds}
 

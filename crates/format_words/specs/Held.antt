@@ -4,8 +4,8 @@ use mathlib.Core.Path.{_≡_}
 use mathlib.Core.List.{List}
 use Prim.Native.Nat.{ℕ, _+_, _<_, _≤_}
 use lib.ListN.{length, getD}
-use Rattle.format_grammar.specs.Items.{Number, valueOf, Repeat, times, Field, Items}
-use Rattle.format_grammar.specs.Met.{Met, fieldValues}
+use Rattle.format_items.specs.Items.{Number, valueOf, Repeat, times, Field, Items}
+use Rattle.format_items.specs.Met.{Met, fieldValues}
 use Rattle.format_words.specs.Words.{kindOf, firstOf, wordOf, repeatOf, kindGroup, metOf, reach}
 
 -- the items begin with an item that is no group, met so many times, and others follow

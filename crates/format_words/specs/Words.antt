@@ -5,8 +5,8 @@ use mathlib.Core.List.{List, [], _∷_}
 use Prim.Native.Nat.{ℕ, _+_, _*_, _/_, _%_, _<_, _≤_}
 use lib.Dec.{eqb}
 use lib.ListN.{take, drop}
-use Rattle.format_grammar.specs.Items.{Field}
-use Rattle.format_grammar.specs.Met.{Met}
+use Rattle.format_items.specs.Items.{Field}
+use Rattle.format_items.specs.Met.{Met}
 
 -- a word of a kind below 16, with a first number below 1,024 and a second one
 abbrev pub word : ℕ → ℕ → ℕ → ℕ

@@ -10,6 +10,7 @@ use borrow.Author.Tests.{le-leb, lt-leb, leb-true}
 use lib.Dec.{leb}
 use lib.ListN.{length, take, drop, getD}
 use lib.Seq.{take-suc, take-all, length-take-le, drop-cons}
+use Rattle.buffer.proofs.Tests.{and-true}
 use Rattle.number.specs.Limits.{largest}
 use Rattle.number.specs.Digits.{isDigit, Digits, allDigits, value}
 use Rattle.number.proofs.PowerLaws.{ten-le}
@@ -84,10 +85,6 @@ module _ (most : ℕ) (s : List ℕ) where
     digits-right e = rw (le-leb 1 (length s) l, le-leb (length s) most h, e .1, e .0)
 
 -- ---- what an answer says of the text
-
-pub and-true : (a b : Bool) → (a && b) ≡ true → (a ≡ true) × (b ≡ true)
-and-true true b e = (refl, e)
-and-true false b e = absurd (false≢true e)
 
 pub some-digits : (most : ℕ) (s : List ℕ) → someDigits most s ≡ true → (1 ≤ length s) × (length s ≤ most) × Digits s
 unfolding someDigits

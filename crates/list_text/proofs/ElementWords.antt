@@ -19,7 +19,8 @@ use Rattle.list_elements.specs.declared.Value.{Value}
 use Rattle.list_elements.specs.declared.Value.the-variants as value
 use Rattle.list_text.specs.ElementLines.{someDigits, hasMinus, afterMinus, isNumber, numberOf, malformed, integerLine, unitsPart, placesByte, decimalLine, logicalLine, elementOn}
 use Rattle.list_text.specs.Promises.{Number, ElementLine, ElementLineIs}
-use Rattle.list_text.proofs.DigitReads.{and-true, some-digits}
+use Rattle.list_text.proofs.DigitReads.{some-digits}
+use Rattle.buffer.proofs.Tests.{and-true}
 use Rattle.list_text.proofs.ElementLaws.{element-unblank, element-short, element-other}
 
 -- ---- numbers

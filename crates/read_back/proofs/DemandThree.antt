@@ -7,7 +7,7 @@ use mathlib.Core.List.{map}
 use Prim.Native.Nat.{ℕ, _≤_}
 use native.Mathlib.Omega.{arith}
 use lib.ListN.{length, length-map}
-use Rattle.format_grammar.specs.Items.{Field}
+use Rattle.format_items.specs.Items.{Field}
 use Rattle.list_elements.specs.Elements.{kindOf, values}
 use Rattle.list_elements.specs.Limits.{mostElements, withinLimits, textsLength}
 use Rattle.list_elements.specs.Contents.{contentKind, contentOf, textsOf}

@@ -18,9 +18,9 @@ use Rattle.field_read.specs.TextRead.{shownText}
 use Rattle.field_read.specs.declared.FieldRead.{FieldRead}
 use Rattle.field_read.specs.declared.FieldRead.the-variants as numbers
 use Rattle.field_read.proofs.Promises.{integer-reads-back, decimal-reads-back, stars-refused, logical-reads-back, text-reads-back, text-read-length}
-use Rattle.format_grammar.specs.Items.{Field}
-use Rattle.format_grammar.specs.Met.{Met}
-use Rattle.format_grammar.specs.Promises.{MetWithin}
+use Rattle.format_items.specs.Items.{Field}
+use Rattle.format_items.specs.Met.{Met}
+use Rattle.format_items.specs.MetRanges.{MetWithin}
 use Rattle.list_elements.specs.Elements as kind
 use Rattle.list_elements.specs.Elements.{Kind, kindOf, textBytes}
 use Rattle.list_elements.specs.Limits.{withinLimits}
@@ -32,7 +32,7 @@ use Rattle.list_elements.specs.declared.Value.the-variants as value
 use Rattle.list_elements.proofs.ApartLaws.{within-integer, within-text}
 use Rattle.sheet_walk.specs.Steps.{suits, fieldWidth}
 use Rattle.write_passes.specs.Placed.{integerOf, decimalOf, fieldCharacters, fieldStarred, fieldTooLarge}
-use Rattle.format_grammar.proofs.Cases.{no-way}
+use Rattle.buffer.proofs.Tests.{no-way}
 use Rattle.sheet_write.specs.Promises.{numeric}
 use Rattle.read_passes.specs.Given.{gives, nothing, integerGiven, decimalGiven, textGiven, fieldGives, shown}
 

@@ -7,7 +7,7 @@ use Prim.Native.Nat.{ℕ, zero, suc, _+_, _≤_}
 use native.Mathlib.Omega.{arith}
 use lib.ListN.{length, drop, getD}
 use lib.Seq.{getD-drop, drop-drop}
-use Rattle.format_grammar.specs.Items.{Field}
+use Rattle.format_items.specs.Items.{Field}
 use Rattle.list_elements.specs.Elements.{Kind, integer}
 use Rattle.list_elements.specs.Contents.{Content, contentKind, contentOf}
 use Rattle.sheet_walk.specs.Steps.{What, element, literal, Placement}
@@ -19,7 +19,7 @@ use Rattle.sheet_walk.specs.declared.Refusal.{Refusal}
 use Rattle.sheet_walk.specs.declared.Refusal.the-variants.{FieldText}
 use Rattle.sheet_walk.proofs.Covering.{in-put}
 use Rattle.write_passes.specs.Placed.{valueAt, fieldStarred, starredOf, isStarred}
-use Rattle.format_grammar.proofs.Cases.{no-way}
+use Rattle.buffer.proofs.Tests.{no-way}
 use Rattle.sheet_write.specs.Promises as writing
 use Rattle.sheet_write.specs.Promises.{valuesOf}
 use Rattle.read_passes.specs.Given.{gives, nothing, fieldGives, Gathered, accepted, refused, inFront, elementGathered, kindAt, whatGathered, gathered, shown}

@@ -7,7 +7,7 @@ use Prim.Native.Nat.{ℕ, _+_, _*_, _<_, _≤_}
 use native.Mathlib.Omega.{arith}
 use lib.ListN.{length, take, drop, length-drop, length-append, length-map, take-append-drop, List·getD-map}
 use lib.Seq.{length-take-le, take-append-le, drop-append-le}
-use Rattle.format_grammar.specs.Items.{Field}
+use Rattle.format_items.specs.Items.{Field}
 use Rattle.list_elements.specs.Elements.{kindOf, zeroValue}
 use Rattle.list_elements.specs.Limits.{withinLimits}
 use Rattle.list_elements.specs.Contents.{contentKind}

@@ -7,7 +7,7 @@ use mathlib.Core.List.{List, [], _∷_, _++_, map}
 use Prim.Native.Nat.{ℕ, _*_, _≤_}
 use lib.ListN.{length, take, getD, replicate}
 use Rattle.buffer.specs.Characters.{asterisk}
-use Rattle.format_grammar.specs.Items.{Field}
+use Rattle.format_items.specs.Items.{Field}
 use Rattle.list_elements.specs.Elements.{kindOf}
 use Rattle.list_elements.specs.Limits.{textsLength}
 use Rattle.list_elements.specs.Contents.{Content, contentOf}

@@ -4,7 +4,7 @@ use mathlib.Core.Path.{_≡_, refl, sym, subst, _∙_}
 use mathlib.Core.List.{List, [], _∷_}
 use Prim.Native.Nat.{ℕ}
 use native.Mathlib.Omega.{arith}
-use Rattle.format_grammar.specs.Items.{Field}
+use Rattle.format_items.specs.Items.{Field}
 use Rattle.list_elements.specs.Elements.{Kind}
 use Rattle.list_elements.specs.Contents.{Content}
 use Rattle.sheet_walk.specs.Steps.{What, element, literal, Placement}

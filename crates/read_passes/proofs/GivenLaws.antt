@@ -14,8 +14,8 @@ use Rattle.field_read.specs.declared.FieldRead.the-variants as numeric
 use Rattle.field_read.specs.declared.LogicalRead.{LogicalRead}
 use Rattle.field_read.specs.declared.LogicalRead.the-variants as truth
 use Rattle.field_read.proofs.Promises.{text-read-length}
-use Rattle.format_grammar.specs.Items.{Field}
-use Rattle.format_grammar.proofs.Cases.{no-way}
+use Rattle.format_items.specs.Items.{Field}
+use Rattle.buffer.proofs.Tests.{no-way}
 use Rattle.list_elements.specs.Elements.{Kind, textLength}
 use Rattle.list_elements.specs.Elements as kind
 use Rattle.list_elements.specs.Contents.{Content, text, contentKind}

@@ -9,7 +9,7 @@ use native.Mathlib.Omega.{arith}
 use lib.IntN.{pos}
 use lib.ListN.{length, drop, getD, drop-of-length-le}
 use lib.Seq.{drop-cons}
-use Rattle.format_grammar.specs.Items.{Field}
+use Rattle.format_items.specs.Items.{Field}
 use Rattle.list_elements.specs.Elements.{Kind}
 use Rattle.list_elements.specs.Elements as kind
 use Rattle.list_elements.specs.Contents.{Content, integer, contentKind}

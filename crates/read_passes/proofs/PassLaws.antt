@@ -8,7 +8,7 @@ use native.Mathlib.Omega.{arith}
 use lib.IntN.{ℤ, pos}
 use lib.ListN.{length, getD, set, take, drop, length-append, length-map, List·getD-append}
 use lib.Seq.{getD-at, getD-set-same, getD-set-other}
-use Rattle.format_grammar.specs.Met.{Met}
+use Rattle.format_items.specs.Met.{Met}
 use Rattle.format_words.specs.Words.{metOf}
 use Rattle.list_elements.specs.Elements.{Kind}
 use Rattle.list_elements.specs.Apart.{kindFrom}

@@ -17,8 +17,8 @@ use Rattle.field_read.specs.declared.FieldRead.{FieldRead}
 use Rattle.field_read.specs.declared.FieldRead.the-variants as numeric
 use Rattle.field_read.specs.declared.LogicalRead.{LogicalRead}
 use Rattle.field_read.specs.declared.LogicalRead.the-variants as truth
-use Rattle.format_grammar.specs.Items.{Field}
-use Rattle.format_grammar.specs.Met.{Met}
+use Rattle.format_items.specs.Items.{Field}
+use Rattle.format_items.specs.Met.{Met}
 use Rattle.format_words.specs.Words.{kindOf, firstOf, secondOf, metOf}
 use Rattle.format_words.proofs.WordKinds.{is-I, is-F, is-L, is-A, is-Aw, is-X, is-T, is-slash, is-literal}
 use Rattle.list_elements.specs.Elements.{Kind, integer, decimal, logical, text, textLength}

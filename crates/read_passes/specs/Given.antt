@@ -13,7 +13,7 @@ use Rattle.field_read.specs.declared.FieldRead.{FieldRead}
 use Rattle.field_read.specs.declared.FieldRead.the-variants as numeric
 use Rattle.field_read.specs.declared.LogicalRead.{LogicalRead}
 use Rattle.field_read.specs.declared.LogicalRead.the-variants as truth
-use Rattle.format_grammar.specs.Items.{Field}
+use Rattle.format_items.specs.Items.{Field}
 use Rattle.list_elements.specs.Elements as kind
 use Rattle.list_elements.specs.Elements.{Kind, textLength}
 use Rattle.list_elements.specs.Contents.{Content, integer, decimal, logical, text}

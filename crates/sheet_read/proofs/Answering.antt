@@ -7,7 +7,7 @@ use Prim.Native.Nat.{ℕ, _/_, _≤_}
 use native.Mathlib.Omega.{arith}
 use borrow.Author.Tests.{le-leb, lt-leb, eq-eqb, ne-eqb}
 use lib.ListN.{length}
-use Rattle.format_grammar.specs.Items.{Items}
+use Rattle.format_items.specs.Items.{Items}
 use Rattle.format_grammar.specs.Check as formats
 use Rattle.format_grammar.specs.Promises.{Acceptable, Answers}
 use Rattle.format_grammar.proofs.Promises as grammar

@@ -8,7 +8,7 @@ use lib.ListN.{length, take, drop}
 use lib.Seq.{take-append-seam, drop-append-seam}
 use Rattle.buffer.specs.Splice.{splice}
 use Rattle.buffer.proofs.SpliceBytes.{length-splice}
-use Rattle.format_grammar.specs.Items.{Items}
+use Rattle.format_items.specs.Items.{Items}
 use Rattle.list_elements.specs.Elements.{kindOf, values}
 use Rattle.list_elements.specs.Limits.{mostElements, mayBeWanted, firstFailing, overLimit, checkValues, wantedCheck}
 use Rattle.list_elements.specs.Contents.{Content, contentKind, textsOf, laidTexts, valuesFrom, listOf, bytesOf}

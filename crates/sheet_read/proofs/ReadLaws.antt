@@ -9,9 +9,9 @@ use borrow.Author.Tests.{eq-eqb, ne-eqb}
 use lib.Dec.{leb}
 use lib.IntN.{ℤ}
 use lib.ListN.{length}
-use Rattle.format_grammar.specs.Items.{Items}
+use Rattle.format_items.specs.Items.{Items}
 use Rattle.format_grammar.specs.Check as formats
-use Rattle.format_grammar.specs.declared.FormatRefusal.{FormatRefusal}
+use Rattle.format_items.specs.declared.FormatRefusal.{FormatRefusal}
 use Rattle.list_elements.specs.Limits.{textsLength}
 use Rattle.list_elements.specs.Apart.{kindFrom}
 use Rattle.list_elements.specs.Contents.{Content}

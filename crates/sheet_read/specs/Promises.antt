@@ -6,7 +6,7 @@ use mathlib.Core.List.{List, map}
 use Prim.Native.Nat.{ℕ, _/_, _<_, _≤_}
 use lib.ListN.{length, take, drop, getD}
 use lib.IntN.{pos}
-use Rattle.format_grammar.specs.Items.{Field, Items}
+use Rattle.format_items.specs.Items.{Field, Items}
 use Rattle.format_grammar.specs.Promises as grammar
 use Rattle.format_grammar.specs.Promises.{Acceptable}
 use Rattle.list_elements.specs.Elements.{Kind, kindOf, zeroValue, emptyList, values}

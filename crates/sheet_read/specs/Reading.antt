@@ -6,7 +6,7 @@ use mathlib.Core.List.{List, map}
 use Prim.Native.Nat.{ℕ, _/_}
 use lib.Dec.{leb, eqb}
 use lib.ListN.{length}
-use Rattle.format_grammar.specs.Items.{Items}
+use Rattle.format_items.specs.Items.{Items}
 use Rattle.format_grammar.specs.Check as formats
 use Rattle.list_elements.specs.Elements.{Kind, kindOf, emptyList, values}
 use Rattle.list_elements.specs.Limits.{wantedCheck, textsLength}

@@ -12,7 +12,7 @@ use Rattle.format_grammar.specs.Check.{Outcome, accepted, refused, outcome}
 use Rattle.format_check.specs.Checked.{answer}
 use Rattle.format_check.specs.declared.FormatCheck.{FormatCheck}
 use Rattle.format_check.specs.declared.FormatCheck.the-variants as check
-use Rattle.format_grammar.specs.declared.FormatRefusal.{FormatRefusal}
+use Rattle.format_items.specs.declared.FormatRefusal.{FormatRefusal}
 use Rattle.list_elements.specs.Elements.{values}
 use Rattle.list_elements.specs.Limits.{listCheck}
 use Rattle.list_elements.specs.Contents.{listOf}

@@ -9,8 +9,9 @@ use native.Mathlib.Omega.{arith}
 use borrow.Author.Tests.{lt-ltb}
 use lib.ListN.{length, take, drop, take-append-drop}
 use lib.Seq.{take-all, length-take-le}
-use Rattle.format_grammar.specs.Check.{longestFormat, outcome, refused}
-use Rattle.format_grammar.specs.declared.FormatRefusal.the-variants.{Length}
+use Rattle.format_grammar.specs.Check.{outcome, refused}
+use Rattle.format_items.specs.Refusals.{longestFormat}
+use Rattle.format_items.specs.declared.FormatRefusal.the-variants.{Length}
 use Rattle.list_elements.specs.declared.Value.{Value}
 use Rattle.list_elements.specs.declared.ListCheck.the-variants.{Bad}
 use Rattle.sheet_walk.specs.Steps.{widthRight}

@@ -4,7 +4,7 @@ use mathlib.Core.Path.{_≡_}
 use mathlib.Core.List.{List}
 use Prim.Native.Nat.{ℕ, _+_, _<_}
 use lib.ListN.{take}
-use Rattle.format_grammar.specs.Check.{longestFormat}
+use Rattle.format_items.specs.Refusals.{longestFormat}
 use Rattle.list_elements.specs.Limits.{listCheck}
 use Rattle.list_elements.specs.Contents.{listOf}
 use Rattle.sheet_write.specs.Writing.{writing, writeAnswer, writeBuffer}

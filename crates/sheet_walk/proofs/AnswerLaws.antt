@@ -7,7 +7,7 @@ use native.Mathlib.Omega.{arith}
 use borrow.Author.Tests.{le-leb, lt-leb, eq-eqb, ne-eqb}
 use lib.Dec.{eqb}
 use lib.ListN.{length, getD, drop}
-use Rattle.format_grammar.specs.Items.{Field}
+use Rattle.format_items.specs.Items.{Field}
 use Rattle.list_elements.specs.Apart.{kindFrom}
 use Rattle.sheet_walk.specs.Steps.{state, What, element, suits, fieldWidth, coverStep, fieldStep}
 use Rattle.sheet_walk.specs.Turns.{Standing, fieldKind, fieldColumns, stepAnswer}

@@ -8,8 +8,8 @@ use native.Mathlib.Omega.{arith}
 use borrow.Author.Tests.{lt-ltb}
 use lib.Dec.{leb, ltb}
 use lib.ListN.{length, drop}
-use Rattle.format_grammar.specs.Items.{Field}
-use Rattle.format_grammar.specs.Met.{Met}
+use Rattle.format_items.specs.Items.{Field}
+use Rattle.format_items.specs.Met.{Met}
 use Rattle.list_elements.specs.Elements.{Kind}
 use Rattle.sheet_walk.specs.Steps.{Step, moves, covers, refused, ends, state, start, fieldStep, nextRecord, step, hasField, endStep}
 use Rattle.sheet_walk.specs.Walk.{Sheet, Trace, put, after, pass, returns, atEnd, walk}

@@ -3,7 +3,7 @@
 use mathlib.Core.Path.{_≡_, sym}
 use mathlib.Core.List.{List}
 use Prim.Native.Nat.{ℕ, _+_}
-use Rattle.format_grammar.specs.Met.{Met}
+use Rattle.format_items.specs.Met.{Met}
 use Rattle.sheet_walk.specs.declared.State.{State}
 use Rattle.sheet_walk.specs.Steps.{Placement}
 use Rattle.sheet_walk.specs.Walk.{Sheet, Trace, put, pass, atEnd, walk}

@@ -8,8 +8,8 @@ use native.Mathlib.Omega.{arith}
 use borrow.Author.Tests.{eq-eqb}
 use lib.Dec.{leb, ltb}
 use lib.ListN.{length, getD, drop}
-use Rattle.format_grammar.specs.Items.{Field}
-use Rattle.format_grammar.specs.Met.{Met}
+use Rattle.format_items.specs.Items.{Field}
+use Rattle.format_items.specs.Met.{Met}
 use Rattle.format_words.specs.Words.{metOf, kindOf, firstOf}
 use Rattle.format_words.proofs.WordKinds.{is-I, is-F, is-L, is-A, is-Aw, is-X, is-T, is-slash}
 use Rattle.list_elements.specs.Elements.{Kind}

@@ -6,10 +6,10 @@ use Prim.Native.Nat.{ℕ, zero, suc, _+_, _-_, _<_, _≤_}
 use native.Mathlib.Omega.{arith}
 use borrow.Author.Tests.{le-leb}
 use lib.ListN.{length, drop}
-use Rattle.format_grammar.specs.Items.{Field, Items}
-use Rattle.format_grammar.specs.Met.{Met, met, returnIndex}
-use Rattle.format_grammar.specs.Promises.{MetWithin, AllMetWithin}
-use Rattle.format_grammar.proofs.Promises.{return-index-is}
+use Rattle.format_items.specs.Items.{Field, Items}
+use Rattle.format_items.specs.Met.{Met, met, returnIndex}
+use Rattle.format_items.specs.MetRanges.{MetWithin, AllMetWithin}
+use Rattle.format_items.proofs.MetLaws.{return-index-is}
 use Rattle.list_elements.specs.Elements.{Kind}
 use Rattle.sheet_walk.specs.declared.Refusal.{Refusal}
 use Rattle.sheet_walk.specs.declared.Records.{Records}

@@ -10,7 +10,7 @@ use borrow.Author.Tests.{lt-leb}
 use lib.Dec.{leb}
 use lib.ListN.{length, getD, take, drop, length-map, List·getD-map, drop-of-length-le, length-drop}
 use lib.Seq.{drop-cons, length-take-le}
-use Rattle.format_grammar.specs.Met.{Met}
+use Rattle.format_items.specs.Met.{Met}
 use Rattle.format_words.specs.Words.{kindOf, firstOf, secondOf, metOf, reach, RunWord, RunWords}
 use Rattle.format_words.proofs.WordKinds.{is-I, is-F, is-L, is-A, is-Aw, is-X, is-T, is-slash, is-literal}
 use Rattle.sheet_walk.specs.Steps.{isField, hasField}

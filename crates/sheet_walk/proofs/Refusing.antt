@@ -6,7 +6,7 @@ use Prim.Native.Nat.{_+_}
 use borrow.Author.Tests.{le-ltb, lt-leb}
 use lib.ListN.{length, getD}
 use lib.Seq.{drop-cons}
-use Rattle.format_grammar.specs.Met.{Met}
+use Rattle.format_items.specs.Met.{Met}
 use Rattle.list_elements.specs.Elements.{Kind, integer}
 use Rattle.sheet_walk.specs.declared.Refusal.{Refusal}
 use Rattle.sheet_walk.specs.declared.Records.{Records}

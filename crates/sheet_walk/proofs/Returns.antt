@@ -6,7 +6,7 @@ use Prim.Native.Nat.{ℕ, zero, suc, _+_, _≤_}
 use native.Mathlib.Omega.{arith}
 use borrow.Author.Tests.{le-leb}
 use lib.ListN.{length}
-use Rattle.format_grammar.specs.Met.{Met}
+use Rattle.format_items.specs.Met.{Met}
 use Rattle.sheet_walk.specs.declared.State.{State}
 use Rattle.sheet_walk.specs.Steps.{Step, moves, covers, refused, ends, step, endStep}
 use Rattle.sheet_walk.specs.Walk.{Sheet, Trace, put, after, pass, returns, atEnd}

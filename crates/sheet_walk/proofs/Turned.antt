@@ -11,8 +11,8 @@ use borrow.Author.Tests.{ltb-true, ltb-false}
 use lib.Dec.{ltb}
 use lib.ListN.{length, getD, drop, drop-of-length-le}
 use lib.Seq.{drop-cons}
-use Rattle.format_grammar.specs.Met.{Met}
-use Rattle.format_grammar.specs.Promises.{MetWithin, AllMetWithin}
+use Rattle.format_items.specs.Met.{Met}
+use Rattle.format_items.specs.MetRanges.{MetWithin, AllMetWithin}
 use Rattle.sheet_walk.specs.Steps.{Placement, Step, moves, covers, refused, ends, step, endStep}
 use Rattle.sheet_walk.specs.Walk.{Sheet, put, done, stopped, after}
 use Rattle.sheet_walk.specs.Laid.{offsetOf}

@@ -7,7 +7,7 @@ use Prim.Native.Nat.{ℕ, _+_, _<_, max, min}
 use native.Mathlib.Omega.{arith}
 use borrow.Author.Tests.{ltb-true, lt-ltb, eqb-true, eq-eqb}
 use lib.Dec.{eqb, ltb}
-use Rattle.format_grammar.proofs.Cases.{and-true}
+use Rattle.buffer.proofs.Tests.{and-true}
 use Rattle.sheet_walk.specs.Steps.{Placement}
 use Rattle.sheet_walk.specs.Walk.{Trace, put, done, stopped}
 use Rattle.sheet_walk.specs.Columns.{Covers, In, here, there, CoveredTwice, share, sharesWith, coveredTwice}

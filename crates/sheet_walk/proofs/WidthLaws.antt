@@ -5,7 +5,7 @@ use mathlib.Core.Bool.{true}
 use Prim.Native.Nat.{ℕ}
 use borrow.Author.Tests.{le-leb, leb-true}
 use lib.Dec.{leb}
-use Rattle.format_grammar.proofs.Cases.{and-true}
+use Rattle.buffer.proofs.Tests.{and-true}
 use Rattle.sheet_walk.specs.Steps.{widthRight}
 use Rattle.sheet_walk.specs.Promises.{WidthRight, WidthRightIs}
 

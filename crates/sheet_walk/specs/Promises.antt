@@ -6,9 +6,9 @@ use mathlib.Core.Bool.{true, false}
 use mathlib.Core.List.{List, [], _∷_}
 use Prim.Native.Nat.{ℕ, zero, suc, _+_, _*_, _<_, _≤_}
 use lib.ListN.{length, getD}
-use Rattle.format_grammar.specs.Items.{Field}
-use Rattle.format_grammar.specs.Met.{Met}
-use Rattle.format_grammar.specs.Promises.{AllMetWithin}
+use Rattle.format_items.specs.Items.{Field}
+use Rattle.format_items.specs.Met.{Met}
+use Rattle.format_items.specs.MetRanges.{AllMetWithin}
 use Rattle.list_elements.specs.Elements.{Kind, integer}
 use Rattle.sheet_walk.specs.Refusals.{refusalPlace}
 use Rattle.sheet_walk.specs.Steps.{widthRight, What, element, literal, Placement, suits, fieldWidth, moves, covers, refused, ends, start, step, hasField, endStep}

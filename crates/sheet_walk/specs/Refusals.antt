@@ -1,7 +1,7 @@
 -- Document 01, 'Checks by place': the columns 'No.' and 'Place' of a sheet's refusals.
 -- Assumes nothing.
 use Prim.Native.Nat.{ℕ}
-use Rattle.format_grammar.specs.Check as format
+use Rattle.format_items.specs.Refusals as format
 use Rattle.sheet_walk.specs.declared.Refusal.{Refusal}
 use Rattle.sheet_walk.specs.declared.Refusal.the-variants.{RecordWidth, Format, Element, TextArea, NoRecord, NextRecord, NoField, Kind, Column, TooLarge, FieldText}
 

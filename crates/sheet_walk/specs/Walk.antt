@@ -4,8 +4,8 @@
 use mathlib.Core.List.{List, [], _∷_}
 use Prim.Native.Nat.{ℕ, zero, suc, _+_}
 use lib.ListN.{length}
-use Rattle.format_grammar.specs.Items.{Items}
-use Rattle.format_grammar.specs.Met.{Met, met, returnPart}
+use Rattle.format_items.specs.Items.{Items}
+use Rattle.format_items.specs.Met.{Met, met, returnPart}
 use Rattle.list_elements.specs.Elements.{Kind}
 use Rattle.sheet_walk.specs.Steps.{Placement, Step, moves, covers, refused, ends, start, step, endStep}
 use Rattle.sheet_walk.specs.declared.Refusal.{Refusal}

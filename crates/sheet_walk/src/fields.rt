@@ -8,7 +8,7 @@ ghost use mathlib.Core.Path.{_≡_};
 ghost use mathlib.Core.List.{map};
 ghost use Prim.Native.Nat.{ℕ, _/_};
 ghost use lib.ListN.{drop, getD};
-ghost use Rattle.format_grammar.specs.Items.{Field};
+ghost use Rattle.format_items.specs.Items.{Field};
 ghost use Rattle.list_elements.specs.Apart.{kindFrom};
 ghost use Rattle.sheet_walk.specs.Steps.{What, coverStep, fieldStep};
 ghost use Rattle.sheet_walk.specs.Turns.{Standing, stepAnswer, fieldKind, fieldColumns};

@@ -24,7 +24,7 @@ ghost use mathlib.Core.Path.{_≡_};
 ghost use mathlib.Core.List.{List, map};
 ghost use Prim.Native.Nat.{ℕ, _<_};
 ghost use lib.ListN.{length, drop};
-ghost use Rattle.format_grammar.specs.Met.{Met};
+ghost use Rattle.format_items.specs.Met.{Met};
 ghost use Rattle.format_words.specs.Words.{metOf, RunWord};
 ghost use Rattle.list_elements.specs.Apart.{kindFrom};
 ghost use Rattle.list_elements.specs.Elements.{Kind};

@@ -4,7 +4,7 @@ pub mod items;
 pub mod refusals;
 pub mod turns;
 
-use format_grammar::FormatRefusal;
+use format_items::FormatRefusal;
 
 // A sheet refused: rows of document 01's 'Checks by place'.
 pub enum Refusal {

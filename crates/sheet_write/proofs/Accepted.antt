@@ -5,7 +5,7 @@ use mathlib.Core.List.{map}
 use Prim.Native.Nat.{ℕ, _*_, _/_, _≤_}
 use native.Mathlib.Nat.{le-trans, mul-le-mul-right, div-mul-le-self}
 use lib.ListN.{length, length-map}
-use Rattle.format_grammar.specs.Items.{Field}
+use Rattle.format_items.specs.Items.{Field}
 use Rattle.format_grammar.proofs.Promises.{met-in-range}
 use Rattle.list_elements.specs.Elements.{kindOf}
 use Rattle.sheet_walk.specs.Steps.{element, Placement}

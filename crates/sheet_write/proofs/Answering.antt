@@ -11,7 +11,7 @@ use lib.ListN.{length}
 use Rattle.number.specs.Limits.{largest}
 use Rattle.number.specs.Rounding.{Nearest, roundedUnits, tooLarge}
 use Rattle.number.proofs.RoundingLaws.{rounded-is}
-use Rattle.format_grammar.specs.Items.{Field, Items}
+use Rattle.format_items.specs.Items.{Field, Items}
 use Rattle.format_grammar.specs.Check as formats
 use Rattle.format_grammar.specs.Promises.{Acceptable, Answers}
 use Rattle.format_grammar.proofs.Promises as grammar

@@ -12,8 +12,8 @@ use Rattle.number.specs.Limits.{largest}
 use Rattle.number.specs.Rounding.{Nearest, roundedUnits, tooLarge}
 use Rattle.number.proofs.RoundingLaws.{nearest-up, rounded-is}
 use Rattle.field_written.proofs.Promises.{small-units}
-use Rattle.format_grammar.specs.Items.{Field}
-use Rattle.format_grammar.proofs.Cases.{no-way}
+use Rattle.format_items.specs.Items.{Field}
+use Rattle.buffer.proofs.Tests.{no-way}
 use Rattle.list_elements.specs.declared.Decimal.{Decimal}
 use Rattle.list_elements.specs.declared.Value.{Value}
 use Rattle.list_elements.specs.declared.Value.the-variants as value

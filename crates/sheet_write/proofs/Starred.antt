@@ -14,8 +14,8 @@ use Rattle.number.proofs.RoundingLaws.{rounded-is}
 use Rattle.field_written.specs.Numeral.{Numeric, plain, standsFor}
 use Rattle.field_written.specs.Written.{field}
 use Rattle.field_written.proofs.Promises as fields
-use Rattle.format_grammar.specs.Items.{Field}
-use Rattle.format_grammar.proofs.Cases.{no-way}
+use Rattle.format_items.specs.Items.{Field}
+use Rattle.buffer.proofs.Tests.{no-way}
 use Rattle.list_elements.specs.Elements.{Kind, integer, kindOf, zeroValue}
 use Rattle.list_elements.specs.declared.Decimal.{Decimal}
 use Rattle.list_elements.specs.declared.Value.{Value}

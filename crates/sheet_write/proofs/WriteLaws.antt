@@ -9,9 +9,9 @@ use borrow.Author.Tests.{eq-eqb, ne-eqb}
 use lib.IntN.{ℤ}
 use lib.ListN.{length, replicate}
 use Rattle.buffer.specs.Splice.{splice}
-use Rattle.format_grammar.specs.Items.{Items}
+use Rattle.format_items.specs.Items.{Items}
 use Rattle.format_grammar.specs.Check as formats
-use Rattle.format_grammar.specs.declared.FormatRefusal.{FormatRefusal}
+use Rattle.format_items.specs.declared.FormatRefusal.{FormatRefusal}
 use Rattle.format_load.specs.Loaded.{RunHeld}
 use Rattle.list_elements.specs.Elements.{Kind, kindOf}
 use Rattle.list_elements.proofs.ApartLaws.{kinds-from}

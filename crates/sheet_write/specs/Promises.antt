@@ -13,7 +13,7 @@ use Rattle.number.specs.Rounding.{Nearest}
 use Rattle.field_written.specs.Numeral.{Numeric, plain, Numeral, standsFor}
 use Rattle.field_written.specs.Numeral as numeral
 use Rattle.field_written.specs.Promises.{AsWritten}
-use Rattle.format_grammar.specs.Items.{Field, Items}
+use Rattle.format_items.specs.Items.{Field, Items}
 use Rattle.format_grammar.specs.Promises as grammar
 use Rattle.format_grammar.specs.Promises.{Acceptable}
 use Rattle.list_elements.specs.Elements.{kindOf, values}

@@ -6,8 +6,8 @@ use mathlib.Core.List.{List, map}
 use Prim.Native.Nat.{ℕ, _<_}
 use lib.IntN.{ℤ}
 use lib.ListN.{length, getD}
-use Rattle.format_grammar.specs.Met.{Met}
-use Rattle.format_grammar.proofs.Cases.{no-way}
+use Rattle.format_items.specs.Met.{Met}
+use Rattle.buffer.proofs.Tests.{no-way}
 use Rattle.format_words.specs.Words.{metOf}
 use Rattle.list_elements.specs.Apart.{kindFrom}
 use Rattle.list_elements.proofs.ApartLaws.{kinds-from}

@@ -7,7 +7,7 @@ use Prim.Native.Nat.{ℕ, suc, _+_, _≤_}
 use native.Mathlib.Omega.{arith}
 use lib.ListN.{length}
 use Rattle.buffer.specs.Splice.{splice}
-use Rattle.format_grammar.specs.Met.{Met}
+use Rattle.format_items.specs.Met.{Met}
 use Rattle.list_elements.specs.declared.Value.{Value}
 use Rattle.sheet_walk.specs.Steps.{What, element, literal, Placement}
 use Rattle.sheet_walk.specs.Walk.{Sheet, Trace, put, done, stopped, walk}

@@ -10,9 +10,9 @@ use Rattle.number.specs.Rounding.{roundedUnits}
 use Rattle.field_written.specs.Numeral.{Numeric, plain}
 use Rattle.field_written.proofs.Promises.{field-length}
 use Rattle.field_written.proofs.Letters.{length-logical, length-text}
-use Rattle.format_grammar.specs.Items.{Field}
-use Rattle.format_grammar.specs.Met.{Met}
-use Rattle.format_grammar.specs.Promises.{MetWithin}
+use Rattle.format_items.specs.Items.{Field}
+use Rattle.format_items.specs.Met.{Met}
+use Rattle.format_items.specs.MetRanges.{MetWithin}
 use Rattle.list_elements.specs.Elements.{Kind, textBytes}
 use Rattle.list_elements.specs.declared.Value.{Value}
 use Rattle.sheet_walk.specs.Steps.{What, element, literal, Placement, fieldWidth}

@@ -18,9 +18,9 @@ use Rattle.field_written.specs.LogicalField.{logicalField}
 use Rattle.field_written.specs.TextField.{textField}
 use Rattle.field_written.specs.declared.Put.the-variants.{Shown, Starred}
 use Rattle.buffer.specs.Splice.{splice}
-use Rattle.format_grammar.specs.Items.{Field}
-use Rattle.format_grammar.specs.Met.{Met}
-use Rattle.format_grammar.specs.Promises.{MetWithin}
+use Rattle.format_items.specs.Items.{Field}
+use Rattle.format_items.specs.Met.{Met}
+use Rattle.format_items.specs.MetRanges.{MetWithin}
 use Rattle.format_words.specs.Words.{kindOf, firstOf, secondOf, metOf, reach}
 use Rattle.format_words.proofs.WordKinds.{is-I, is-F, is-L, is-A, is-Aw, is-X, is-T, is-slash, is-literal}
 use Rattle.list_elements.specs.Elements as elements

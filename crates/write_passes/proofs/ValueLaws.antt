@@ -8,7 +8,7 @@ use native.Mathlib.Omega.{arith}
 use lib.IntN.{pos, natAbs}
 use lib.ListN.{length}
 use Rattle.number.specs.Limits.{largest, mostPlaces}
-use Rattle.format_grammar.proofs.Cases.{no-way}
+use Rattle.buffer.proofs.Tests.{no-way}
 use Rattle.list_elements.specs.Elements.{kindOf}
 use Rattle.list_elements.specs.Limits.{withinLimits}
 use Rattle.list_elements.specs.Apart.{kindNumber, amount, detail}

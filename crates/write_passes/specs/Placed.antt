@@ -10,7 +10,7 @@ use Rattle.field_written.specs.Numeral.{Numeric, plain}
 use Rattle.field_written.specs.Written.{field, starred, decimalField}
 use Rattle.field_written.specs.LogicalField.{logicalField}
 use Rattle.field_written.specs.TextField.{textField}
-use Rattle.format_grammar.specs.Items.{Field}
+use Rattle.format_items.specs.Items.{Field}
 use Rattle.list_elements.specs.Elements.{zeroValue, textBytes}
 use Rattle.list_elements.specs.declared.Decimal.{Decimal}
 use Rattle.list_elements.specs.declared.Text.{Text}

@@ -1,7 +1,7 @@
 -- `format_cases::runs::show_items` meets its contract.
 -- Assumes nothing.
 use native.Mathlib.Omega.{arith}
-use Rattle.format_grammar.proofs.MetLaws.{met-is-size}
+use Rattle.format_items.proofs.MetLaws.{met-is-size}
 use Rattle.format_check.proofs.CheckSteps.{items-fit}
 use borrow.Author.Needs.{needs}
 use Rattle.format_cases.proofs.runs.show_items.Statement.{statement}

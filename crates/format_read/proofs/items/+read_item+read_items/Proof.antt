@@ -5,7 +5,7 @@ use Prim.Native.Nat.{_+_, _-_, _*_}
 use native.Mathlib.Omega.{arith}
 use borrow.Author.Needs.{needs}
 use lib.ListN.{length}
-use Rattle.format_grammar.specs.Items.{Items}
+use Rattle.format_items.specs.Items.{Items}
 use Rattle.format_grammar.specs.Reading.{Open}
 use Rattle.format_read.proofs.GroupSteps.{group-fits, took-group, SoFar, so-far-none, so-far-wrong, so-far-end, so-far-other, so-far-closed, so-far-more}
 use Prim.Native.Nat.{ℕ, _<_}

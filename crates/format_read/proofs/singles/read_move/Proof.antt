@@ -2,7 +2,7 @@
 -- Assumes nothing.
 use mathlib.Core.Path.{refl, sym}
 use native.Mathlib.Omega.{arith}
-use Rattle.format_grammar.specs.Items.{number, Repeat}
+use Rattle.format_items.specs.Items.{number, Repeat}
 use Rattle.format_grammar.specs.Reading.{Use, written}
 use Rattle.format_grammar.proofs.NumberLaws.{written-absent, written-given}
 use Rattle.format_read.proofs.SingleSteps.{ends-T}

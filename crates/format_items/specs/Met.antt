@@ -4,7 +4,7 @@ use mathlib.Core.Bool.{Bool, true, false, cond}
 use mathlib.Core.List.{List, [], _∷_, _++_}
 use Prim.Native.Nat.{ℕ, zero, suc, _-_}
 use lib.ListN.{length, replicate}
-use Rattle.format_grammar.specs.Items.{Number, valueOf, times, Field, Items}
+use Rattle.format_items.specs.Items.{Number, valueOf, times, Field, Items}
 
 -- an item met: no repeat, no group
 pub data Met : Type 0 where

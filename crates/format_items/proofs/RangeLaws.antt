@@ -7,9 +7,9 @@ use Prim.Native.Nat.{ℕ, _≤_}
 use native.Mathlib.Omega.{arith}
 use borrow.Author.Tests.{ltb-false, le-ltb}
 use lib.Dec.{ltb}
-use Rattle.format_grammar.specs.Items.{valueOf}
-use Rattle.format_grammar.specs.Ranges.{Ranged, ranged, outside, place, nowhere, at, firstOutside, Within, AllWithin}
-use Rattle.format_grammar.specs.Promises.{FirstOutsideAt}
+use Rattle.format_items.specs.Items.{valueOf, Repeat, times}
+use Rattle.format_items.specs.Ranges.{Ranged, ranged, outside, place, nowhere, at, firstOutside, repeatNumbers, Within, AllWithin}
+use Rattle.format_items.specs.Promises.{FirstOutsideAt}
 
 -- ---- one number
 
@@ -88,3 +88,9 @@ within-left (x ∷ xs) ys h = (h .0, within-left xs ys (h .1))
 pub within-right : (xs ys : List Ranged) → AllWithin (xs ++ ys) → AllWithin ys
 within-right [] ys h = h
 within-right (x ∷ xs) ys h = within-right xs ys (h .1)
+
+-- ---- repeats
+
+pub times-some : (r : Repeat) → AllWithin (repeatNumbers r) → 1 ≤ times r
+times-some Repeat.absent h = omega arith
+times-some (Repeat.given n) h = h .0 .0

@@ -2,7 +2,7 @@
 use crate::FormatRefusal;
 use crate::LONGEST_FORMAT;
 ghost use mathlib.Core.Path.{_≡_};
-ghost use Rattle.format_grammar.specs.Check.{refusalNumber, refusalPlace};
+ghost use Rattle.format_items.specs.Refusals.{refusalNumber, refusalPlace};
 
 // The number of a refusal.
 pub fn number_of(refusal: FormatRefusal) -> u64

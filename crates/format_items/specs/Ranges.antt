@@ -4,7 +4,7 @@ use mathlib.Core.Bool.{Bool, _||_, cond}
 use mathlib.Core.List.{List, [], _∷_, _++_}
 use Prim.Native.Nat.{ℕ, _≤_}
 use lib.Dec.{ltb}
-use Rattle.format_grammar.specs.Items.{Number, offset, valueOf, Repeat, absent, given, Field, I, F, L, A, Aw, Items, none, field, group, X, T, slash, literal}
+use Rattle.format_items.specs.Items.{Number, offset, valueOf, Repeat, absent, given, Field, I, F, L, A, Aw, Items, none, field, group, X, T, slash, literal}
 
 -- a number and its range, both ends included
 pub data Ranged : Type 0 where

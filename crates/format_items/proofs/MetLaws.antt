@@ -8,10 +8,10 @@ use native.Mathlib.Nat.{zero-mul}
 use native.Mathlib.Omega.{arith}
 use lib.ListN.{length, replicate, drop, length-append, length-replicate}
 use lib.Seq.{drop-at}
-use Rattle.format_grammar.specs.Items.{valueOf, Repeat, times, Items, join}
-use Rattle.format_grammar.specs.Size.{size}
-use Rattle.format_grammar.specs.Met.{Met, repeat, met, fieldValues, hasGroup, fromLastGroup, returnPart, returnIndex}
-use Rattle.format_grammar.specs.Promises.{NoGroup, ReturnsTo, MetIsSize, ReturnPartIs, ReturnIndexIs}
+use Rattle.format_items.specs.Items.{valueOf, Repeat, times, Items, join}
+use Rattle.format_items.specs.Size.{size}
+use Rattle.format_items.specs.Met.{Met, repeat, met, fieldValues, hasGroup, fromLastGroup, returnPart, returnIndex}
+use Rattle.format_items.specs.Promises.{NoGroup, ReturnsTo, MetIsSize, ReturnPartIs, ReturnIndexIs}
 
 pub length-repeat : {A : Type 0} (n : ℕ) (xs : List A) → length (repeat n xs) ≡ n * length xs
 unfolding repeat

@@ -2,8 +2,8 @@
 -- Assumes nothing.
 use mathlib.Core.Path.{_≡_, refl, sym, ap}
 use mathlib.Core.List.{_++_, append-assoc}
-use Rattle.format_grammar.specs.Items.{Items, join}
-use Rattle.format_grammar.specs.Ranges.{repeatNumbers, fieldNumbers, numbers}
+use Rattle.format_items.specs.Items.{Items, join}
+use Rattle.format_items.specs.Ranges.{repeatNumbers, fieldNumbers, numbers}
 
 pub join-assoc : (x y z : Items) → join (join x y) z ≡ join x (join y z)
 unfolding join

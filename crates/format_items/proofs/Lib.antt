@@ -1,0 +1,3 @@
+pub mod ItemLaws
+pub mod RangeLaws
+pub mod MetLaws
