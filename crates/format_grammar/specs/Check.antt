@@ -6,7 +6,7 @@ use mathlib.Core.List.{List}
 use Prim.Native.Nat.{ℕ}
 use lib.Dec.{ltb}
 use lib.ListN.{length}
-use Rattle.format_items.specs.Items.{Items}
+use Rattle.format_items.specs.Items.{Items, none}
 use Rattle.format_items.specs.Ranges.{numbers, FirstOutside, nowhere, at, firstOutside}
 use Rattle.format_items.specs.Size.{size, largestSize}
 use Rattle.format_grammar.specs.Reading.{Reading, items, wrong, reading}
@@ -46,3 +46,8 @@ outcomeNumber (refused why) = refusalNumber why
 abbrev pub outcomePlace : Outcome → ℕ
 outcomePlace (accepted xs) = 0
 outcomePlace (refused why) = refusalPlace why
+
+-- the items of an accepted format
+abbrev pub itemsOf : Outcome → Items
+itemsOf (accepted xs) = xs
+itemsOf (refused why) = none

@@ -6,7 +6,7 @@ use mathlib.Core.List.{List, map}
 use Prim.Native.Nat.{ℕ, _/_, _<_, _≤_}
 use native.Mathlib.Nat.{le-div-iff-mul-le}
 use native.Mathlib.Omega.{arith}
-use borrow.Author.Tests.{le-leb, ne-eqb}
+use borrow.Author.Tests.{le-leb}
 use lib.ListN.{length, length-map}
 use Rattle.format_items.specs.Items.{Items}
 use Rattle.format_grammar.specs.Check as formats
@@ -22,12 +22,15 @@ use Rattle.list_elements.proofs.RowSix.{good-back}
 use Rattle.sheet_walk.specs.Walk.{Trace, sheet, walk}
 use Rattle.sheet_walk.specs.Promises.{EndsWith}
 use Rattle.sheet_walk.proofs.Promises.{records-beyond}
+use Rattle.sheet_rows.specs.Rows.{recordsIn}
+use Rattle.sheet_rows.proofs.RowLaws.{all-passed, walk-under}
 use Rattle.write_passes.specs.Placed.{valueAt}
 use Rattle.sheet_write.specs.Promises as writing
 use Rattle.sheet_write.specs.Promises.{valuesOf, recordsNumber}
 use Rattle.sheet_write.proofs.Promises.{records-reached}
 use Rattle.read_passes.specs.Given.{kindAt, gathered}
-use Rattle.sheet_read.specs.Reading.{concluded, readingOf}
+use Rattle.sheet_read.specs.Reading.{concluded, wantedRows, readingOf}
+use Rattle.sheet_read.proofs.ReadLaws.{wanted-passed}
 use Rattle.sheet_read.specs.Promises as reading
 use Rattle.sheet_read.specs.Promises.{kindsOf}
 use Rattle.read_back.specs.DemandThree.{Accepted, ReadsBack}
@@ -41,12 +44,9 @@ rows-passed : (R : ℕ) (format : List ℕ) (xs : Items) (check : ListCheck) (ki
 unfolding readingOf
 rows-passed R format xs check kinds room records low high f g fits some =
     rw (
-      le-leb 1 R low,
-      le-leb R 255 high,
-      f,
-      g,
-      le-leb (textsLength kinds) room fits,
-      ne-eqb (length records / R) 0 (λ z. omega arith),
+      all-passed R format (wantedRows check kinds room) (length records / R) (record { from = low; to = high }) f
+          (wanted-passed check kinds room g (le-leb (textsLength kinds) room fits)) (λ z. omega arith),
+      walk-under format xs kinds (recordsIn R (length records)) f,
     )
 
 -- ---- row 6: an element within its limits has a kind that may be wanted

@@ -37,7 +37,7 @@ module _ {c : Call} {t : Trace} {n : ℕ} (a : AcceptableCall c t n) where
   -- at most 64 elements are wanted
   few : length (kindsOf c) ≤ mostElements
   few =
-      let g = check-good mayBeWanted (c .wanted) (a .walks .list-passed .list) .1 in
+      let g = check-good mayBeWanted (c .wanted) (a .walks .list .good) .1 in
       let l = length-map (values (c .wanted)) kindOf in
       omega (arith, values-most (c .wanted))
 
@@ -53,4 +53,4 @@ module _ {c : Call} {t : Trace} {n : ℕ} (a : AcceptableCall c t n) where
     contents-kinds = gathers-kinds g all-suited ∙ ap (map (kindAt (kindsOf c))) puts-all ∙ kinds-at (kindsOf c) 0 (length (kindsOf c)) (omega arith)
 
     pub texts-room : length (textsOf cs) ≤ length (c .area)
-    texts-room = rw (texts-length cs, contents-kinds) (a .walks .room)
+    texts-room = rw (texts-length cs, contents-kinds) (a .walks .list .room)

@@ -1,35 +1,35 @@
 -- What becomes of a call: its contents are gathered on its walk, or a row answers.
 -- Assumes nothing.
-use mathlib.Core.Path.{_≡_, refl, subst}
+use mathlib.Core.Path.{_≡_, refl}
 use mathlib.Core.Bool.{Bool, true, false, cond}
 use mathlib.Core.List.{List}
-use Prim.Native.Nat.{ℕ, _/_, _<_, _≤_}
-use native.Mathlib.Omega.{arith}
-use borrow.Author.Tests.{leb-true, leb-false, eqb-true, eqb-false}
-use lib.Dec.{leb, eqb}
+use Prim.Native.Nat.{ℕ, _/_}
+use borrow.Author.Tests.{le-leb, lt-leb, leb-true, leb-false}
+use lib.Dec.{leb}
 use lib.ListN.{length}
 use Rattle.format_items.specs.Items.{Items}
-use Rattle.format_grammar.specs.Check as formats
-use Rattle.format_grammar.specs.Promises.{Acceptable}
-use Rattle.format_grammar.specs.Promises as formatted
-use Rattle.format_grammar.proofs.Promises as grammar
-use Rattle.format_grammar.proofs.Answering.{numbered}
+use Rattle.format_grammar.specs.Check.{outcome}
+use Rattle.format_grammar.proofs.Promises.{accepts-exactly}
 use Rattle.list_elements.specs.Contents.{Content}
 use Rattle.list_elements.specs.Limits.{wantedCheck, textsLength}
 use Rattle.list_elements.specs.declared.ListCheck.{ListCheck}
 use Rattle.list_elements.specs.declared.ListCheck.the-variants.{Good, Bad}
-use Rattle.sheet_walk.specs.Steps.{widthRight, Placement}
-use Rattle.sheet_walk.specs.Promises.{WidthRight, StopsWith}
-use Rattle.sheet_walk.proofs.WidthLaws.{width-passed, width-right}
+use Rattle.sheet_walk.specs.Steps.{Placement}
+use Rattle.sheet_walk.specs.Promises.{StopsWith}
 use Rattle.sheet_walk.specs.Walk.{Trace, put}
 use Rattle.sheet_walk.specs.Refusals.{refusalNumber, refusalPlace}
 use Rattle.sheet_walk.specs.declared.Refusal.{Refusal}
-use Rattle.sheet_walk.specs.declared.Refusal.the-variants.{NoRecord, TextArea, FieldText, RecordWidth}
+use Rattle.sheet_walk.specs.declared.Refusal.the-variants.{Element, TextArea, FieldText}
 use Rattle.sheet_walk.proofs.Covering.{in-put, in-stopped}
+use Rattle.sheet_rows.specs.Rows as rows
+use Rattle.sheet_rows.specs.Rows.{Row, passed, then, inOrder, formatRow, rowsBefore, afterRows, recordsIn, walkUnder}
+use Rattle.sheet_rows.specs.Promises.{RowTold, RefusedWith, Says}
+use Rattle.sheet_rows.proofs.RowLaws.{rows-say, walk-under}
 use Rattle.read_passes.specs.Given.{Gathered, gathered}
 use Rattle.read_passes.proofs.GatheredLaws.{Gathers, Refuses, Told, told, AllReadable}
-use Rattle.sheet_read.specs.Reading.{Reading, accepts, refuses, concluded, checkRecords, checkArea, checkWanted, checkFormat, readingOf}
-use Rattle.sheet_read.specs.Promises.{Call, kindsOf, becomes, ListPassed, Walks, walkOf, Readable, UnreadableAt, AnsweredBy}
+use Rattle.sheet_read.specs.Reading.{Reading, accepts, refuses, concluded, wantedRows, readingOf}
+use Rattle.sheet_read.specs.Promises.{Call, kindsOf, becomes, WantedPass, WantedAnswers, Walks, RowBefore, walkOf, Readable, UnreadableAt, AnsweredBy}
+use Rattle.sheet_read.proofs.ReadLaws.{element-refuses, area-refuses, wanted-passed}
 
 -- contents and n records are gathered on a walk of the call
 abbrev pub GathersOn : Call → Trace → List Content → ℕ → Type 0
@@ -68,43 +68,53 @@ came-walk : (c : Call) (xs : Items) → Walks c xs → {g : Gathered} → Told (
 came-walk c xs w (Told.accepts a) = Came.accepted w a
 came-walk c xs w (Told.refuses r) = Came.refused (answered-walk c xs w (stopped c r))
 
--- ---- the rows before it, the last first
+-- ---- the rows before it
 
-came-records : (c : Call) (xs : Items) → ListPassed c xs → textsLength (kindsOf c) ≤ length (c .area) → Came c (checkRecords (c .R) xs (kindsOf c) (c .records))
-came-records c xs w l = go (eqb (length (c .records) / c .R) 0) refl
+-- what those of the wanted elements say
+wanted-says : (c : Call) → Says (wantedRows (wantedCheck (c .wanted)) (kindsOf c) (length (c .area))) (WantedPass c) (WantedAnswers c)
+unfolding wantedRows inOrder
+wanted-says c =
+    record {
+      told = told-so (wantedCheck (c .wanted)) refl;
+      passes-only = λ w. wanted-passed (wantedCheck (c .wanted)) (kindsOf c) (length (c .area)) (w .good) (le-leb (textsLength (kindsOf c)) (length (c .area)) (w .room));
+      answers-only = λ k p a. answers a;
+    }
   where
-    go : (b : Bool) → eqb (length (c .records) / c .R) 0 ≡ b → Came c (cond b (refuses NoRecord) (concluded (gathered (c .R) (kindsOf c) (c .records) (walkOf c xs))))
-    go true e = Came.refused (AnsweredBy.no-record w l (eqb-true (length (c .records) / c .R) 0 e))
-    go false e =
-        let ne : length (c .records) / c .R ≡ 0 → ⊥ = eqb-false (length (c .records) / c .R) 0 e in
-        let some : 0 < length (c .records) / c .R = omega arith in
-        came-walk c xs (record { list-passed = w; room = l; some-record = some }) (told (c .R) (kindsOf c) (c .records) (walkOf c xs))
+    told-area : wantedCheck (c .wanted) ≡ Good → (b : Bool) → leb (textsLength (kindsOf c)) (length (c .area)) ≡ b
+        → RowTold (WantedPass c) (WantedAnswers c) (then (cond b passed (rows.refused TextArea)) passed)
+    told-area g true e = RowTold.passes (record { good = g; room = leb-true (textsLength (kindsOf c)) (length (c .area)) e })
+    told-area g false e = RowTold.answers (WantedAnswers.no-room g (leb-false (textsLength (kindsOf c)) (length (c .area)) e))
 
-came-area : (c : Call) (xs : Items) → ListPassed c xs → Came c (checkArea (c .R) xs (kindsOf c) (length (c .area)) (c .records))
-came-area c xs w = go (leb (textsLength (kindsOf c)) (length (c .area))) refl
-  where
-    go : (b : Bool) → leb (textsLength (kindsOf c)) (length (c .area)) ≡ b → Came c (cond b (checkRecords (c .R) xs (kindsOf c) (c .records)) (refuses TextArea))
-    go true e = came-records c xs w (leb-true (textsLength (kindsOf c)) (length (c .area)) e)
-    go false e = Came.refused (AnsweredBy.no-room w (leb-false (textsLength (kindsOf c)) (length (c .area)) e))
+    told-so : (k : ListCheck) → wantedCheck (c .wanted) ≡ k → RowTold (WantedPass c) (WantedAnswers c) (wantedRows k (kindsOf c) (length (c .area)))
+    told-so Good e = told-area e (leb (textsLength (kindsOf c)) (length (c .area))) refl
+    told-so (Bad p) e = RowTold.answers (WantedAnswers.bad-element e)
 
-came-wanted : (c : Call) (xs : Items) → WidthRight (c .R) → Acceptable (c .format) xs → (k : ListCheck) → wantedCheck (c .wanted) ≡ k → Came c (checkWanted (c .R) xs k (kindsOf c) (length (c .area)) (c .records))
-came-wanted c xs w f Good e = came-area c xs (record { width = w; format = f; list = e })
-came-wanted c xs w f (Bad p) e = Came.refused (AnsweredBy.bad-element w f e)
+    answers : {k p : ℕ} → WantedAnswers c k p → RefusedWith (wantedRows (wantedCheck (c .wanted)) (kindsOf c) (length (c .area))) k p
+    answers (WantedAnswers.bad-element {p} e) =
+        record { why = Element p; is = element-refuses (wantedCheck (c .wanted)) (kindsOf c) (length (c .area)) e; number-is = refl; place-is = refl }
+    answers (WantedAnswers.no-room g l) =
+        record {
+          why = TextArea;
+          is = area-refuses (wantedCheck (c .wanted)) (kindsOf c) (length (c .area)) g (lt-leb (textsLength (kindsOf c)) (length (c .area)) l);
+          number-is = refl;
+          place-is = refl;
+        }
 
-came-format : (c : Call) → WidthRight (c .R) → (o : formats.Outcome) → formats.outcome (c .format) ≡ o → Came c (checkFormat (c .R) o (wantedCheck (c .wanted)) (kindsOf c) (length (c .area)) (c .records))
-came-format c w (formats.accepted xs) e = came-wanted c xs w (grammar.accepts-exactly (c .format) xs .0 e) (wantedCheck (c .wanted)) refl
-came-format c w (formats.refused why) e =
-    Came.refused (AnsweredBy.wrong-format w (numbered why)
-    (subst (λ o. formatted.AnsweredBy (c .format) (formats.outcomeNumber o) (formats.outcomePlace o)) e (grammar.always-answered (c .format))))
+-- what they say
+pub rows-said : (c : Call)
+    → Says (rowsBefore (c .R) (formatRow (outcome (c .format))) (wantedRows (wantedCheck (c .wanted)) (kindsOf c) (length (c .area))) (length (c .records) / c .R)) ((xs : Items) × Walks c xs) (RowBefore c)
+rows-said c =
+    rows-say (c .R) (c .format) (wantedRows (wantedCheck (c .wanted)) (kindsOf c) (length (c .area))) (WantedPass c) (WantedAnswers c) (length (c .records) / c .R) (wanted-says c)
+
+-- the walk
+pub walk-is : (c : Call) (xs : Items) → Walks c xs → walkUnder (c .format) (kindsOf c) (recordsIn (c .R) (length (c .records))) ≡ walkOf c xs
+walk-is c xs w = walk-under (c .format) xs (kindsOf c) (recordsIn (c .R) (length (c .records))) (accepts-exactly (c .format) xs .1 (w .format))
 
 pub came : (c : Call) → Came c (becomes c)
 unfolding readingOf
-came c = go (widthRight (c .R)) refl
+came c = go (rows-said c .told)
   where
-    go : (b : Bool) → widthRight (c .R) ≡ b → Came c (cond b (checkFormat (c .R) (formats.outcome (c .format)) (wantedCheck (c .wanted)) (kindsOf c) (length (c .area)) (c .records)) (refuses RecordWidth))
-    go true e = came-format c (width-passed (c .R) e) (formats.outcome (c .format)) refl
-    go false e =
-        Came.refused (AnsweredBy.wrong-width (λ w.
-        let t = width-right (c .R) w in
-        let z : _≡_ {A = ℕ} 0 1 = cc in
-        omega arith))
+    go : {row : Row} → RowTold ((xs : Items) × Walks c xs) (RowBefore c) row
+        → Came c (afterRows refuses row (concluded (gathered (c .R) (kindsOf c) (c .records) (walkUnder (c .format) (kindsOf c) (recordsIn (c .R) (length (c .records)))))))
+    go (RowTold.passes p) = rw (walk-is c (p .0) (p .1)) (came-walk c (p .0) (p .1) (told (c .R) (kindsOf c) (c .records) (walkOf c (p .0))))
+    go (RowTold.answers a) = Came.refused (AnsweredBy.row-before a)

@@ -1,6 +1,6 @@
+pub mod ReadLaws
 pub mod Calls
 pub mod Answering
 pub mod Accepted
 pub mod Promises
-pub mod ReadLaws
 pub mod Whole

@@ -2,13 +2,12 @@
 -- Assumes nothing.
 use mathlib.Core.Path.{_≡_, refl, sym, ap, _∙_}
 use mathlib.Core.List.{List, [], map}
-use Prim.Native.Nat.{ℕ, _<_, _≤_}
+use Prim.Native.Nat.{ℕ, _/_, _≤_}
 use native.Mathlib.Omega.{arith}
-use borrow.Author.Tests.{le-leb, lt-leb}
 use lib.IntN.{ℤ}
 use lib.ListN.{length, take, length-map}
 use Rattle.buffer.specs.Splice.{splice}
-use Rattle.format_grammar.specs.Check as formats
+use Rattle.format_grammar.specs.Check.{outcome}
 use Rattle.list_elements.specs.Elements.{Kind, values}
 use Rattle.list_elements.specs.Limits.{mostElements, wantedCheck, textsLength}
 use Rattle.list_elements.specs.Apart.{kindNumber, kindFrom, usableCount}
@@ -18,12 +17,14 @@ use Rattle.list_elements.specs.declared.ListCheck.{ListCheck}
 use Rattle.list_elements.specs.declared.ListCheck.the-variants.{Good, Bad}
 use Rattle.list_elements.proofs.ApartLaws.{kinds-of}
 use Rattle.sheet_walk.specs.declared.Refusal.{Refusal}
-use Rattle.sheet_walk.specs.declared.Refusal.the-variants.{RecordWidth}
+use Rattle.sheet_walk.specs.declared.Refusal.the-variants.{Element}
 use Rattle.sheet_walk.specs.declared.Ending.{Ending}
 use Rattle.sheet_walk.specs.declared.Ending.the-variants as ending
+use Rattle.sheet_rows.specs.Rows.{inOrder, formatRow}
+use Rattle.sheet_rows.proofs.RowLaws.{bad-list, after-refused}
 use Rattle.read_passes.specs.Passes.{Held}
 use Rattle.sheet_walk.specs.Answers.{answerNumber, answerPlace, answerRecords, answerStarred}
-use Rattle.sheet_read.specs.Reading.{Reading, accepts, refuses, checkFormat, readingOf, reading, answerOf, listGiven, areaOf, readAnswer, readList, readArea, readingNumber, readingPlace, readingRecords, readingStarred}
+use Rattle.sheet_read.specs.Reading.{Reading, accepts, refuses, wantedRows, readingOf, reading, answerOf, listGiven, areaOf, readAnswer, readList, readArea, readingNumber, readingPlace, readingRecords, readingStarred}
 use Rattle.sheet_read.specs.Parts.{givenCount, endingAnswer, endingOf, Did}
 use Rattle.sheet_read.specs.Promises.{Call, kindsOf, becomes}
 use Rattle.sheet_read.specs.declared.SheetRead.{SheetRead}
@@ -52,34 +53,14 @@ pub given-few : (q : Ending) (n : ℕ) → givenCount q n ≤ n
 given-few (ending.Refused why) n = omega arith
 given-few (ending.Accepted k) n = omega arith
 
--- ---- row 1
-
-module _ (R : ℕ) (format : List ℕ) (check : ListCheck) (kinds : List Kind) (room : ℕ) (records : List ℕ) where
-  pub width-none : R < 1 → readingOf R format check kinds room records ≡ refuses RecordWidth
-  unfolding readingOf
-  width-none h = rw (lt-leb 1 R h)
-
-  pub width-over : 1 ≤ R → 255 < R → readingOf R format check kinds room records ≡ refuses RecordWidth
-  unfolding readingOf
-  width-over l h = rw (le-leb 1 R l, lt-leb R 255 h)
-
-  pub width-right : 1 ≤ R → R ≤ 255 → readingOf R format check kinds room records ≡ checkFormat R (formats.outcome format) check kinds room records
-  unfolding readingOf
-  width-right l h = rw (le-leb 1 R l, le-leb R 255 h)
-
 -- ---- the kinds taken
 
 -- the kinds of a bad list do not matter
-same-reading : (R : ℕ) (o : formats.Outcome) (check : ListCheck) (ks js : List Kind) (room : ℕ) (records : List ℕ) → (check ≡ Good → ks ≡ js)
-    → checkFormat R o check ks room records ≡ checkFormat R o check js room records
-same-reading R (formats.accepted xs) Good ks js room records e = rw (e refl)
-same-reading R (formats.accepted xs) (Bad p) ks js room records e = refl
-same-reading R (formats.refused why) check ks js room records e = refl
-
 same-call : (R : ℕ) (format : List ℕ) (check : ListCheck) (ks js : List Kind) (room : ℕ) (records : List ℕ) → (check ≡ Good → ks ≡ js)
     → readingOf R format check ks room records ≡ readingOf R format check js room records
-unfolding readingOf
-same-call R format check ks js room records e = rw (same-reading R (formats.outcome format) check ks js room records e)
+unfolding readingOf wantedRows inOrder
+same-call R format Good ks js room records e = rw (e refl)
+same-call R format (Bad p) ks js room records e = after-refused refuses (bad-list R (Element p) (formatRow (outcome format)) (length records / R)) _ _
 
 module _ (c : Call) (check : ListCheck) (is : check ≡ wantedCheck (c .wanted)) (kinds : List ℕ)
     (taken : check ≡ Good → take (c .wanted .count) kinds ≡ map kindNumber (values (c .wanted))) (n : ℕ) (uses : n ≡ usableCount check (c .wanted .count)) where
@@ -119,7 +100,7 @@ module _ (c : Call) (check : ListCheck) (is : check ≡ wantedCheck (c .wanted))
         let a = accepted-from _ (sym e ∙ did .ends) in
         let b = becomes-is ∙ a .1 in
         let g = accepts-exactly c (a .0) k .0 b in
-        let q = kinds-are (is ∙ g .accepted .walks .list-passed .list) in
+        let q = kinds-are (is ∙ g .accepted .walks .list .good) in
         let m : length used ≡ length (kindsOf c) = sym (length-map used kindFrom) ∙ ap length q in
         record {
           cs = a .0;
@@ -130,7 +111,7 @@ module _ (c : Call) (check : ListCheck) (is : check ≡ wantedCheck (c .wanted))
                 few = omega arith;
                 amounts-long = omega arith;
                 details-long = omega arith;
-                fits = rw q (g .accepted .walks .room);
+                fits = rw q (g .accepted .walks .list .room);
                 each = did .held (a .0) k (a .1);
               };
         }

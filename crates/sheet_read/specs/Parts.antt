@@ -4,7 +4,6 @@ use mathlib.Core.Path.{_≡_}
 use mathlib.Core.List.{List, map}
 use Prim.Native.Nat.{ℕ}
 use lib.IntN.{ℤ}
-use Rattle.format_grammar.specs.Check.{outcome}
 use Rattle.format_load.specs.Loaded.{RunHeld}
 use Rattle.list_elements.specs.Apart.{kindFrom}
 use Rattle.list_elements.specs.Contents.{Content}
@@ -12,7 +11,7 @@ use Rattle.list_elements.specs.declared.ListCheck.{ListCheck}
 use Rattle.sheet_walk.specs.declared.Ending.{Ending}
 use Rattle.sheet_walk.specs.declared.Ending.the-variants as ending
 use Rattle.read_passes.specs.Passes.{HeldSoFar}
-use Rattle.sheet_read.specs.Reading.{Reading, accepts, refuses, checkFormat, readingOf}
+use Rattle.sheet_read.specs.Reading.{Reading, accepts, refuses, readingOf}
 use Rattle.sheet_walk.specs.declared.Answer.{Answer}
 use Rattle.sheet_walk.specs.declared.Answer.the-variants as answer
 
@@ -37,12 +36,8 @@ pub record Did (m : Reading) (kinds records : List ℕ) (r : Ending) (amounts : 
 
 -- under the run of a format
 pub record ReadRun (width : ℕ) (t words : List ℕ) (back : ℕ) (check : ListCheck) (kinds : List ℕ) (room : ℕ) (records : List ℕ) (r : Ending) (amounts : List ℤ) (details : List ℕ) : Type 0 where
-  pub read : (format : List ℕ) → RunHeld format t words back → Did (checkFormat width (outcome format) check (map kindFrom kinds) room records) kinds records r amounts details
+  pub read : (format : List ℕ) → RunHeld format t words back → Did (readingOf width format check (map kindFrom kinds) room records) kinds records r amounts details
 
 -- under a format's text
 pub record ReadText (width : ℕ) (text : List ℕ) (check : ListCheck) (kinds : List ℕ) (room : ℕ) (records : List ℕ) (r : Ending) (amounts : List ℤ) (details : List ℕ) : Type 0 where
-  pub read : Did (checkFormat width (outcome text) check (map kindFrom kinds) room records) kinds records r amounts details
-
--- under any width, too
-pub record ReadCall (width : ℕ) (text : List ℕ) (check : ListCheck) (kinds : List ℕ) (room : ℕ) (records : List ℕ) (r : Ending) (amounts : List ℤ) (details : List ℕ) : Type 0 where
   pub read : Did (readingOf width text check (map kindFrom kinds) room records) kinds records r amounts details

@@ -7,8 +7,6 @@ use Prim.Native.Nat.{ℕ, _/_, _<_, _≤_}
 use lib.ListN.{length, take, drop, getD}
 use lib.IntN.{pos}
 use Rattle.format_items.specs.Items.{Field, Items}
-use Rattle.format_grammar.specs.Promises as grammar
-use Rattle.format_grammar.specs.Promises.{Acceptable}
 use Rattle.list_elements.specs.Elements.{Kind, kindOf, zeroValue, emptyList, values}
 use Rattle.list_elements.specs.Limits.{mostElements, wantedCheck, textsLength}
 use Rattle.list_elements.specs.Contents.{Content, integer, contentOf, textsOf, valuesFrom, elementOf}
@@ -20,8 +18,10 @@ use Rattle.sheet_walk.specs.Steps.{element, Placement}
 use Rattle.sheet_walk.specs.Walk.{Trace, put, sheet, walk}
 use Rattle.sheet_walk.specs.Columns.{In}
 use Rattle.sheet_walk.specs.Laid.{columns}
-use Rattle.sheet_walk.specs.Promises.{WidthRight, EndsWith, StopsWith, elementsPut, numbersFrom}
+use Rattle.sheet_walk.specs.Promises.{EndsWith, StopsWith, elementsPut, numbersFrom}
 use Rattle.sheet_walk.specs.declared.Refusal.{Refusal}
+use Rattle.sheet_rows.specs.Rows.{recordsIn}
+use Rattle.sheet_rows.specs.Promises.{RowsPassed, RowAnswers}
 use Rattle.read_passes.specs.Given.{Given, gives, nothing, fieldGives, kindAt}
 use Rattle.sheet_walk.specs.Answers.{answerNumber, answerPlace, answerRecords, answerStarred}
 use Rattle.sheet_read.specs.Reading.{Reading, accepts, refuses, reading, readAnswer, readList, readArea}
@@ -68,21 +68,27 @@ KindsOnly =
 -- ---- which row answers, with its number and its place: 'Rows apply in this order down to the first walk row; then the first
 -- refusal on the walk counts'
 
--- rows 1 to 6 are passed, the format's items being xs
-pub record ListPassed (c : Call) (xs : Items) : Type 0 where
-  pub width : WidthRight (c .R)
-  pub format : Acceptable (c .format) xs
-  pub list : wantedCheck (c .wanted) ≡ Good
-
--- and so are rows 13 and 9: every row before the walk
-pub record Walks (c : Call) (xs : Items) : Type 0 where
-  pub list-passed : ListPassed c xs
+-- the rows of the wanted elements, 6 and 13, are passed
+pub record WantedPass (c : Call) : Type 0 where
+  pub good : wantedCheck (c .wanted) ≡ Good
   pub room : textsLength (kindsOf c) ≤ length (c .area)
-  pub some-record : 0 < length (c .records) / c .R
+
+-- one of them answers with a number and a place
+pub data WantedAnswers (c : Call) : ℕ → ℕ → Type 0 where
+  bad-element : {p : ℕ} → wantedCheck (c .wanted) ≡ Bad p → WantedAnswers c 6 p
+  no-room : wantedCheck (c .wanted) ≡ Good → length (c .area) < textsLength (kindsOf c) → WantedAnswers c 13 0
+
+-- every row before the walk is passed, the format's items being xs
+abbrev pub Walks : Call → Items → Type 0
+Walks c xs = RowsPassed (c .R) (c .format) (WantedPass c) (length (c .records) / c .R) xs
+
+-- one of them answers
+abbrev pub RowBefore : Call → ℕ → ℕ → Type 0
+RowBefore c = RowAnswers (c .R) (c .format) (WantedPass c) (WantedAnswers c) (length (c .records) / c .R)
 
 -- its walk
 abbrev pub walkOf : Call → Items → Trace
-walkOf c xs = walk (sheet xs (kindsOf c) (record { width = c .R; count = length (c .records) / c .R }))
+walkOf c xs = walk (sheet xs (kindsOf c) (recordsIn (c .R) (length (c .records))))
 
 -- what the columns of a placement give, read as the field f of element i
 abbrev pub givenBy : Call → Placement → ℕ → Field ℕ → Given
@@ -108,11 +114,7 @@ pub record AcceptableCall (c : Call) (t : Trace) (n : ℕ) : Type 0 where
 -- what answers with a number and a place: acceptance, or a row
 pub data AnsweredBy (c : Call) : ℕ → ℕ → Type 0 where
   acceptable : {t : Trace} {n : ℕ} → AcceptableCall c t n → AnsweredBy c 0 0
-  wrong-width : (WidthRight (c .R) → ⊥) → AnsweredBy c 1 0
-  wrong-format : {k p : ℕ} → WidthRight (c .R) → (k ≡ 0 → ⊥) → grammar.AnsweredBy (c .format) k p → AnsweredBy c k p
-  bad-element : {xs : Items} {p : ℕ} → WidthRight (c .R) → Acceptable (c .format) xs → wantedCheck (c .wanted) ≡ Bad p → AnsweredBy c 6 p
-  no-room : {xs : Items} → ListPassed c xs → length (c .area) < textsLength (kindsOf c) → AnsweredBy c 13 0
-  no-record : {xs : Items} → ListPassed c xs → textsLength (kindsOf c) ≤ length (c .area) → length (c .records) / c .R ≡ 0 → AnsweredBy c 9 0
+  row-before : {k p : ℕ} → RowBefore c k p → AnsweredBy c k p
   refused-walk : {xs : Items} {why : Refusal} → Walks c xs → StopsWith why (walkOf c xs) → ((p : Placement) → In p (walkOf c xs) → Readable c p)
       → AnsweredBy c (refusalNumber why) (refusalPlace why)
   unreadable : {xs : Items} {i : ℕ} → Walks c xs → UnreadableAt c i (walkOf c xs) → AnsweredBy c 12 i

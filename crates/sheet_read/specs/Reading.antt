@@ -2,23 +2,21 @@
 -- for every record width R, format, list of wanted elements, text area and records.
 -- Assumes nothing.
 use mathlib.Core.Bool.{cond}
-use mathlib.Core.List.{List, map}
+use mathlib.Core.List.{List, [], _∷_, map}
 use Prim.Native.Nat.{ℕ, _/_}
-use lib.Dec.{leb, eqb}
+use lib.Dec.{leb}
 use lib.ListN.{length}
-use Rattle.format_items.specs.Items.{Items}
-use Rattle.format_grammar.specs.Check as formats
+use Rattle.format_grammar.specs.Check.{outcome}
 use Rattle.list_elements.specs.Elements.{Kind, kindOf, emptyList, values}
 use Rattle.list_elements.specs.Limits.{wantedCheck, textsLength}
 use Rattle.list_elements.specs.Contents.{Content, laidTexts, valuesFrom, listOf}
 use Rattle.list_elements.specs.declared.List as carried
 use Rattle.list_elements.specs.declared.ListCheck.{ListCheck}
-use Rattle.list_elements.specs.declared.ListCheck.the-variants.{Good, Bad}
 use Rattle.sheet_walk.specs.Refusals.{refusalNumber, refusalPlace}
-use Rattle.sheet_walk.specs.Steps.{widthRight}
-use Rattle.sheet_walk.specs.Walk.{sheet, walk}
 use Rattle.sheet_walk.specs.declared.Refusal.{Refusal}
-use Rattle.sheet_walk.specs.declared.Refusal.the-variants.{RecordWidth, Format, Element, TextArea, NoRecord}
+use Rattle.sheet_walk.specs.declared.Refusal.the-variants.{TextArea}
+use Rattle.sheet_rows.specs.Rows as rows
+use Rattle.sheet_rows.specs.Rows.{Row, passed, inOrder, formatRow, elementRow, rowsBefore, afterRows, recordsIn, walkUnder}
 use Rattle.read_passes.specs.Given.{Gathered, accepted, refused, gathered}
 use Rattle.sheet_walk.specs.declared.Answer.{Answer}
 use Rattle.sheet_walk.specs.declared.Answer.the-variants as answer
@@ -33,33 +31,22 @@ abbrev pub concluded : Gathered → Reading
 concluded (accepted cs n) = accepts cs n
 concluded (refused why) = refuses why
 
--- ---- the rows before the walk, 'in this order'; each is written with the rows that apply after it, so that row 1 stands last
-
--- row 9, 'buffer, before the walk': 'A lent buffer of B bytes holds B / R whole records, rounded down'; and then the same walk as in
--- writing
-abbrev pub checkRecords : ℕ → Items → List Kind → List ℕ → Reading
-checkRecords R xs kinds records =
-    cond (eqb (length records / R) 0) (refuses NoRecord)
-    (concluded (gathered R kinds records (walk (sheet xs kinds (record { width = R; count = length records / R })))))
+-- ---- the rows before the walk
 
 -- row 13: 'wanted texts longer together than the text area', of `room` bytes
-abbrev pub checkArea : ℕ → Items → List Kind → ℕ → List ℕ → Reading
-checkArea R xs kinds room records = cond (leb (textsLength kinds) room) (checkRecords R xs kinds records) (refuses TextArea)
+abbrev pub textAreaRow : List Kind → ℕ → Row
+textAreaRow kinds room = cond (leb (textsLength kinds) room) passed (rows.refused TextArea)
 
--- row 6
-abbrev pub checkWanted : ℕ → Items → ListCheck → List Kind → ℕ → List ℕ → Reading
-checkWanted R xs Good kinds room records = checkArea R xs kinds room records
-checkWanted R xs (Bad p) kinds room records = refuses (Element p)
+-- rows 6 and 13: those of the list, in reading
+unfoldable pub wantedRows : ListCheck → List Kind → ℕ → Row
+wantedRows check kinds room = inOrder (elementRow check ∷ textAreaRow kinds room ∷ [])
 
--- rows 2 to 5
-abbrev pub checkFormat : ℕ → formats.Outcome → ListCheck → List Kind → ℕ → List ℕ → Reading
-checkFormat R (formats.accepted xs) check kinds room records = checkWanted R xs check kinds room records
-checkFormat R (formats.refused why) check kinds room records = refuses (Format why)
-
--- row 1: the whole of reading, for wanted elements whose check is given and that have these kinds
+-- the whole of reading, for wanted elements whose check is given and that have these kinds: the rows before the walk, and the same walk
+-- as in writing
 unfoldable pub readingOf : ℕ → List ℕ → ListCheck → List Kind → ℕ → List ℕ → Reading
 readingOf R format check kinds room records =
-    cond (widthRight R) (checkFormat R (formats.outcome format) check kinds room records) (refuses RecordWidth)
+    afterRows refuses (rowsBefore R (formatRow (outcome format)) (wantedRows check kinds room) (length records / R))
+    (concluded (gathered R kinds records (walkUnder format kinds (recordsIn R (length records)))))
 
 -- for the carried list: 'the caller lists the kinds wanted, with a length for each text'
 abbrev pub reading : ℕ → List ℕ → carried.List → ℕ → List ℕ → Reading

@@ -8,11 +8,12 @@ use read_passes::reading::read_pass;
 use sheet_walk::Ending;
 use sheet_walk::Records;
 use sheet_walk::Refusal;
-use sheet_walk::WIDEST_RECORD;
+use sheet_walk::width::width_right;
 ghost use Prim.Native.Nat.{_≤_, _<_, _^_};
 ghost use lib.ListN.{length};
 ghost use Rattle.format_load.specs.Loaded.{SomeRun};
-ghost use Rattle.sheet_read.specs.Parts.{ReadRun, ReadText, ReadCall};
+ghost use Rattle.sheet_walk.specs.Promises.{WidthRight};
+ghost use Rattle.sheet_read.specs.Parts.{ReadRun, ReadText};
 
 // Under a format that was loaded, if the wanted elements are good, their texts have room and there is a record: rows 6, 13 and
 // 9, and the walk.
@@ -28,7 +29,7 @@ fn read_loaded(
     amounts: &mut [i64],
     details: &mut [usize],
 ) -> Ending
-    requires { ⌜ (1 ≤ width) × (width < 256) × SomeRun (now chars) (now words) back × (length (now kinds) < 2 ^ 32) × (length (now kinds) ≤ length (now amounts)) × (length (now kinds) ≤ length (now details)) ⌝ }
+    requires { ⌜ WidthRight width × SomeRun (now chars) (now words) back × (length (now kinds) < 2 ^ 32) × (length (now kinds) ≤ length (now amounts)) × (length (now kinds) ≤ length (now details)) ⌝ }
     ensures { λ r. ⌜ ReadRun width (now (chars .entry)) (now (words .entry)) back check (now (kinds .entry)) room (now (records .entry)) r (now (amounts .exit)) (now (details .exit)) ⌝ }
 {
     match check {
@@ -58,7 +59,7 @@ fn read_large(
     amounts: &mut [i64],
     details: &mut [usize],
 ) -> Ending
-    requires { ⌜ (1 ≤ width) × (width < 256) × (length (now kinds) < 2 ^ 32) × (length (now kinds) ≤ length (now amounts)) × (length (now kinds) ≤ length (now details)) ⌝ }
+    requires { ⌜ WidthRight width × (length (now kinds) < 2 ^ 32) × (length (now kinds) ≤ length (now amounts)) × (length (now kinds) ≤ length (now details)) ⌝ }
     ensures { λ r. ⌜ ReadText width (now (format .entry)) check (now (kinds .entry)) room (now (records .entry)) r (now (amounts .exit)) (now (details .exit)) ⌝ }
 {
     let mut entries = [0u64; 1024];
@@ -94,7 +95,7 @@ fn read_middle(
     amounts: &mut [i64],
     details: &mut [usize],
 ) -> Ending
-    requires { ⌜ (1 ≤ width) × (width < 256) × (length (now kinds) < 2 ^ 32) × (length (now kinds) ≤ length (now amounts)) × (length (now kinds) ≤ length (now details)) ⌝ }
+    requires { ⌜ WidthRight width × (length (now kinds) < 2 ^ 32) × (length (now kinds) ≤ length (now amounts)) × (length (now kinds) ≤ length (now details)) ⌝ }
     ensures { λ r. ⌜ ReadText width (now (format .entry)) check (now (kinds .entry)) room (now (records .entry)) r (now (amounts .exit)) (now (details .exit)) ⌝ }
 {
     let mut entries = [0u64; 256];
@@ -131,7 +132,7 @@ fn read_small(
     amounts: &mut [i64],
     details: &mut [usize],
 ) -> Ending
-    requires { ⌜ (1 ≤ width) × (width < 256) × (length (now kinds) < 2 ^ 32) × (length (now kinds) ≤ length (now amounts)) × (length (now kinds) ≤ length (now details)) ⌝ }
+    requires { ⌜ WidthRight width × (length (now kinds) < 2 ^ 32) × (length (now kinds) ≤ length (now amounts)) × (length (now kinds) ≤ length (now details)) ⌝ }
     ensures { λ r. ⌜ ReadText width (now (format .entry)) check (now (kinds .entry)) room (now (records .entry)) r (now (amounts .exit)) (now (details .exit)) ⌝ }
 {
     let mut entries = [0u64; 64];
@@ -169,12 +170,9 @@ pub fn read_numbers(
     details: &mut [usize],
 ) -> Ending
     requires { ⌜ (length (now kinds) < 2 ^ 32) × (length (now kinds) ≤ length (now amounts)) × (length (now kinds) ≤ length (now details)) ⌝ }
-    ensures { λ r. ⌜ ReadCall width (now (format .entry)) check (now (kinds .entry)) room (now (records .entry)) r (now (amounts .exit)) (now (details .exit)) ⌝ }
+    ensures { λ r. ⌜ ReadText width (now (format .entry)) check (now (kinds .entry)) room (now (records .entry)) r (now (amounts .exit)) (now (details .exit)) ⌝ }
 {
-    if width < 1 {
-        return Ending::Refused(Refusal::RecordWidth);
-    }
-    if WIDEST_RECORD < width {
+    if !width_right(width) {
         return Ending::Refused(Refusal::RecordWidth);
     }
     read_small(width, format, check, kinds, room, records, amounts, details)

@@ -9,11 +9,13 @@ use lib.ListN.{length}
 use Rattle.format_load.specs.Loaded.{RunHeld}
 use Rattle.list_elements.specs.Apart.{kindFrom}
 use Rattle.sheet_walk.specs.Walk.{sheet}
+use Rattle.sheet_walk.specs.Promises.{WidthRight}
 use Rattle.sheet_walk.specs.Turns.{Loaded, Roomy, sheetOf}
 use Rattle.sheet_walk.specs.declared.Records.{Records}
+use Rattle.sheet_rows.specs.Rows.{recordsIn}
 
-pub roomy : (R B : ℕ) → 1 ≤ R → R < 256 → (B / R ≡ 0 → ⊥) → Roomy (record { width = R; count = B / R }) B
-roomy R B l h n = record { some-record = positive (B / R) n; wide = l; narrow = h; room = div-mul-le-self B R }
+pub roomy : (R B : ℕ) → WidthRight R → (B / R ≡ 0 → ⊥) → Roomy (recordsIn R B) B
+roomy R B w n = record { some-record = positive (B / R) n; wide = w .from; narrow = omega (arith, w .to); room = div-mul-le-self B R }
   where
     positive : (m : ℕ) → (m ≡ 0 → ⊥) → 0 < m
     positive m e = omega arith

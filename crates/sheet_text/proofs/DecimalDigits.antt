@@ -1,10 +1,9 @@
 -- Numerals of more than 18 digits, put in two parts.
 -- Assumes nothing.
-use mathlib.Core.Path.{_≡_, refl, sym, ap, _∙_}
-use mathlib.Core.List.{List, [], _∷_, _++_}
+use mathlib.Core.Path.{_≡_, sym, ap, _∙_}
+use mathlib.Core.List.{List, _++_}
 use Prim.Native.Nat.{ℕ, zero, suc, _+_, _-_, _*_, _/_, _%_, _^_, _<_, _≤_}
-use native.Mathlib.Nat.{add-comm, suc-add, div-div-eq-div-mul, div-lt-iff-lt-mul, le-div-iff-mul-le, mul-le-mul-right, lt-irrefl}
-use native.Mathlib.Numerals.{add-one}
+use native.Mathlib.Nat.{add-comm, div-div-eq-div-mul, div-lt-iff-lt-mul, le-div-iff-mul-le}
 use native.Mathlib.Decide.{decLt}
 use native.Mathlib.Omega.{arith}
 use lib.ListN.{length, length-append}
@@ -13,7 +12,7 @@ use Rattle.buffer.specs.Splice.{splice}
 use Rattle.buffer.proofs.Splicing.{splice-then}
 use Rattle.number.specs.Limits.{largest}
 use Rattle.number.specs.Digits.{digitsOf, digitCount}
-use Rattle.number.proofs.PowerLaws.{ten-pos, ten-le}
+use Rattle.number.proofs.PowerLaws.{ten-pos}
 use Rattle.number.proofs.DigitLaws.{length-digits, digitCount-least, digitCount-holds, digitCount-pos, count-more, count-found, digits-cut}
 use Rattle.sheet_text.specs.Output.{decimalDigits}
 

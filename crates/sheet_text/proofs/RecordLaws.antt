@@ -1,10 +1,10 @@
 -- The records written do not depend on the buffer that they are written into.
 -- Assumes nothing.
-use mathlib.Core.Path.{_≡_, refl, sym, ap, _∙_}
+use mathlib.Core.Path.{_≡_, refl, _∙_}
 use mathlib.Core.List.{List, [], _++_, append-assoc, append-nil}
 use Prim.Native.Nat.{ℕ, _+_, _*_, _≤_}
 use native.Mathlib.Omega.{arith}
-use lib.ListN.{length, take, drop, replicate, length-replicate}
+use lib.ListN.{length, drop, replicate, length-replicate}
 use lib.Seq.{take-append-le, drop-append-le, drop-nil}
 use Rattle.buffer.specs.Characters.{blank}
 use Rattle.buffer.specs.Splice.{splice}

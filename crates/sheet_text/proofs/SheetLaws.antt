@@ -26,10 +26,10 @@ use Rattle.list_text.proofs.LineLaws.{line-is, after-is}
 use Rattle.list_text.proofs.ElementLaws.{part-rest}
 use Rattle.sheet_text.specs.FromListText.{writingFrom, answerFrom, bufferFrom}
 use Rattle.sheet_text.specs.Input.{widthOn, inputWidth, inputFormat, inputList}
-use Rattle.sheet_text.specs.Output.{recordLines, countsLine, refusedLine, outputOf}
+use Rattle.sheet_text.specs.Output.{recordLines, countsLine, refusedLine}
 use Rattle.sheet_text.specs.SheetOutput.{recordBuffer, inputWriting, sheetOutput}
 use Rattle.sheet_text.proofs.TextLaws.{callOf, text-called, text-reached}
-use Rattle.sheet_text.proofs.LineLaws.{lines-front, lines-long}
+use Rattle.sheet_text.proofs.LineLaws.{lines-front}
 use Rattle.sheet_text.proofs.RecordLaws.{written-front, written-long}
 
 -- ---- the input taken apart

@@ -1,9 +1,8 @@
 -- Writing from a list text.
 -- Assumes nothing.
 use mathlib.Core.Path.{_≡_, refl, sym, ap, subst, _∙_}
-use mathlib.Core.Bool.{Bool, true, false, cond}
-use mathlib.Core.List.{List, []}
-use Prim.Native.Nat.{ℕ, _*_, _<_, _≤_}
+use mathlib.Core.List.{List, [], map}
+use Prim.Native.Nat.{ℕ, _*_, _/_, _<_, _≤_}
 use native.Mathlib.Nat.{mul-le-mul-left, mul-one}
 use native.Mathlib.Omega.{arith}
 use borrow.Author.Tests.{le-leb, lt-leb}
@@ -13,7 +12,8 @@ use Rattle.format_check.specs.Checked.{answer}
 use Rattle.format_check.specs.declared.FormatCheck.{FormatCheck}
 use Rattle.format_check.specs.declared.FormatCheck.the-variants as check
 use Rattle.format_items.specs.declared.FormatRefusal.{FormatRefusal}
-use Rattle.list_elements.specs.Elements.{values}
+use Rattle.format_items.specs.Items.{Items}
+use Rattle.list_elements.specs.Elements.{kindOf, values}
 use Rattle.list_elements.specs.Limits.{listCheck}
 use Rattle.list_elements.specs.Contents.{listOf}
 use Rattle.list_elements.proofs.ContentLaws.{values-list}
@@ -21,12 +21,14 @@ use Rattle.list_elements.specs.declared.Value.{Value}
 use Rattle.list_elements.specs.declared.List as carried
 use Rattle.list_elements.specs.declared.ListCheck.{ListCheck}
 use Rattle.list_elements.specs.declared.ListCheck.the-variants.{Good, Bad}
-use Rattle.sheet_walk.specs.Steps.{widthRight}
 use Rattle.sheet_walk.specs.declared.Refusal.{Refusal}
 use Rattle.sheet_walk.specs.declared.Refusal.the-variants.{RecordWidth, Format, Element}
 use Rattle.sheet_walk.specs.declared.Answer.{Answer}
 use Rattle.sheet_walk.specs.declared.Answer.the-variants.{Refused}
-use Rattle.sheet_write.specs.Writing.{Writing, accepts, refuses, checkFormat, writingOf, writing, answerOf, writeAnswer, writeBuffer}
+use Rattle.sheet_rows.specs.Rows.{Row, inOrder, formatRow, elementRow, rowsBefore, afterRows, recordsIn, walkUnder}
+use Rattle.sheet_rows.proofs.RowLaws as row
+use Rattle.sheet_rows.proofs.RowLaws.{wrongFormat, wrong-format, wrong-format-refused, bad-list, bad-same, after-refused}
+use Rattle.sheet_write.specs.Writing.{Writing, accepts, refuses, walked, writingOf, writing, answerOf, writeAnswer, writeBuffer}
 use Rattle.sheet_write.specs.Parts.{Wrote}
 use Rattle.sheet_write.specs.Promises.{Call, becomes}
 use Rattle.sheet_write.proofs.Promises.{accepts-exactly, records-reached}
@@ -57,30 +59,36 @@ writing-from-is =
 
 -- ---- a list that row 6 refuses
 
--- what becomes of it, by the rows before: whatever its values and the buffer, it is refused
-bad-format : (R : ℕ) (p : ℕ) (vs : List Value) (B : ℕ) (o : Outcome) → checkFormat R o (Bad p) vs B ≡ checkFormat R o (Bad p) [] 0
-bad-format R p vs B (accepted xs) = refl
-bad-format R p vs B (refused why) = refl
-
+-- what becomes of it: whatever its values and the buffer, it is refused
 pub bad-writing : (R : ℕ) (format : List ℕ) (p : ℕ) (vs : List Value) (B : ℕ) → writingOf R format (Bad p) vs B ≡ writingOf R format (Bad p) [] 0
 unfolding writingOf
-bad-writing R format p vs B = ap (λ (w : Writing). cond (widthRight R) w (refuses RecordWidth)) (bad-format R p vs B (outcome format))
+bad-writing R format p vs B =
+    ap (λ (w : Row). afterRows refuses w (walked vs (walkUnder format (map kindOf vs) (recordsIn R B)))) (bad-same R (Element p) (formatRow (outcome format)) (B / R) (0 / R))
+    ∙ after-refused refuses (bad-list R (Element p) (formatRow (outcome format)) (0 / R)) _ _
 
 -- refused, so that neither the values nor the buffer before matter
 pub data IsRefused : Writing → Type 0 where
   refused-by : (why : Refusal) → IsRefused (refuses why)
 
-bad-is-format : (R p : ℕ) (o : Outcome) → IsRefused (checkFormat R o (Bad p) [] 0)
-bad-is-format R p (accepted xs) = IsRefused.refused-by (Element p)
-bad-is-format R p (refused why) = IsRefused.refused-by (Format why)
+after-is-refused : {w : Row} (walk : Writing) → row.IsRefused w → IsRefused (afterRows refuses w walk)
+after-is-refused walk (row.IsRefused.refused-by why) = IsRefused.refused-by why
 
 pub bad-is-refused : (R : ℕ) (format : List ℕ) (p : ℕ) → IsRefused (writingOf R format (Bad p) [] 0)
 unfolding writingOf
-bad-is-refused R format p = go (widthRight R)
-  where
-    go : (b : Bool) → IsRefused (cond b (checkFormat R (outcome format) (Bad p) [] 0) (refuses RecordWidth))
-    go true = bad-is-format R p (outcome format)
-    go false = IsRefused.refused-by RecordWidth
+bad-is-refused R format p = after-is-refused _ (bad-list R (Element p) (formatRow (outcome format)) (0 / R))
+
+-- under a format that is refused
+abbrev pub formatRefused : ℕ → FormatRefusal → Writing
+formatRefused R why = afterRows refuses (wrongFormat R (Format why)) (refuses RecordWidth)
+
+pub wrong-writing : (R : ℕ) (format : List ℕ) (check : ListCheck) (vs : List Value) (B : ℕ) {why : FormatRefusal} → outcome format ≡ refused why
+    → writingOf R format check vs B ≡ formatRefused R why
+unfolding writingOf
+wrong-writing R format check vs B {why} e =
+    rw (e, wrong-format R (Format why) (elementRow check) (B / R)) (after-refused refuses (wrong-format-refused R (Format why)) _ _)
+
+pub wrong-is-refused : (R : ℕ) (why : FormatRefusal) → IsRefused (formatRefused R why)
+wrong-is-refused R why = after-is-refused (refuses RecordWidth) (wrong-format-refused R (Format why))
 
 refused-wrote : {R : ℕ} {area : List ℕ} {vs : List Value} {before : List ℕ} {w : Writing} → IsRefused w → (ws : List Value) {r : Answer} → r ≡ answerOf ws w → Wrote R area vs before w r before
 refused-wrote (IsRefused.refused-by why) ws e = record { answers = e; bytes = refl }
@@ -94,33 +102,36 @@ bad-wrote R format text before {p} {r} e f =
 -- its answer, row by row
 module _ (R : ℕ) (format : List ℕ) (p : ℕ) where
   pub bad-width-none : R < 1 → Refused RecordWidth ≡ badListAnswer R format p
-  unfolding writingOf
+  unfolding writingOf rowsBefore inOrder
   bad-width-none h = rw (lt-leb 1 R h)
 
   module _ (low : 1 ≤ R) where
     pub bad-width-over : 255 < R → Refused RecordWidth ≡ badListAnswer R format p
-    unfolding writingOf
+    unfolding writingOf rowsBefore inOrder
     bad-width-over h = rw (le-leb 1 R low, lt-leb R 255 h)
 
     module _ (high : R ≤ 255) where
-      right : badListAnswer R format p ≡ answerOf [] (checkFormat R (outcome format) (Bad p) [] 0)
-      unfolding writingOf
-      right = rw (le-leb 1 R low, le-leb R 255 high)
+      bad-accepted : {xs : Items} → outcome format ≡ accepted xs → Refused (Element p) ≡ badListAnswer R format p
+      unfolding writingOf rowsBefore inOrder
+      bad-accepted e = rw (le-leb 1 R low, le-leb R 255 high, e)
 
-      answered : (o : Outcome) → outcome format ≡ o → {k : FormatCheck} → k ≡ answer o → (r : Answer)
-          → ((xs : _) → o ≡ accepted xs → r ≡ Refused (Element p)) → ((why : FormatRefusal) → k ≡ check.Refused why → r ≡ Refused (Format why)) → r ≡ badListAnswer R format p
-      answered (accepted xs) e f r a b = a xs refl ∙ sym (right ∙ rw e)
-      answered (refused why) e f r a b = b why f ∙ sym (right ∙ rw e)
+      bad-refused : {why : FormatRefusal} → outcome format ≡ refused why → Refused (Format why) ≡ badListAnswer R format p
+      unfolding writingOf rowsBefore inOrder
+      bad-refused e = rw (le-leb 1 R low, le-leb R 255 high, e)
 
       pub bad-format-right : {k : FormatCheck} → k ≡ answer (outcome format) → k ≡ check.Accepted → Refused (Element p) ≡ badListAnswer R format p
-      bad-format-right e f = answered (outcome format) refl e (Refused (Element p)) (λ xs q. refl) (λ why q. let z : _≡_ {A = ℕ} 0 1 = cc in absurd (omega arith))
+      bad-format-right {k} e f = go (outcome format) refl
+        where
+          go : (o : Outcome) → outcome format ≡ o → Refused (Element p) ≡ badListAnswer R format p
+          go (accepted xs) q = bad-accepted q
+          go (refused why) q = let g : k ≡ check.Refused why = e ∙ ap answer q in let z : _≡_ {A = ℕ} 0 1 = cc in absurd (omega arith)
 
       pub bad-format-wrong : {k : FormatCheck} {why : FormatRefusal} → k ≡ answer (outcome format) → k ≡ check.Refused why → Refused (Format why) ≡ badListAnswer R format p
       bad-format-wrong {k} {why} e f = go (outcome format) refl
         where
           go : (o : Outcome) → outcome format ≡ o → Refused (Format why) ≡ badListAnswer R format p
           go (accepted xs) q = let g : k ≡ check.Accepted = e ∙ ap answer q in let z : _≡_ {A = ℕ} 0 1 = cc in absurd (omega arith)
-          go (refused why₂) q = let g : k ≡ check.Refused why₂ = e ∙ ap answer q in let h : why ≡ why₂ = cc in ap (λ x. Refused (Format x)) h ∙ sym (right ∙ rw q)
+          go (refused why₂) q = let g : k ≡ check.Refused why₂ = e ∙ ap answer q in let h : why ≡ why₂ = cc in ap (λ x. Refused (Format x)) h ∙ bad-refused q
 
 -- ---- a good list
 

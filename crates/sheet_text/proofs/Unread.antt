@@ -1,7 +1,7 @@
 -- What lies past the longest input does not matter.
 -- Assumes nothing.
 use mathlib.Core.Path.{_≡_, refl, sym, ap, _∙_}
-use mathlib.Core.Bool.{Bool, true, false, cond}
+use mathlib.Core.Bool.{false}
 use mathlib.Core.List.{List, _++_}
 use Prim.Native.Nat.{ℕ, _+_, _-_, _<_}
 use native.Mathlib.Decide.{decLt}
@@ -15,8 +15,8 @@ use Rattle.format_items.specs.declared.FormatRefusal.the-variants.{Length}
 use Rattle.list_elements.specs.declared.Value.{Value}
 use Rattle.list_elements.specs.declared.ListCheck.the-variants.{Bad}
 use Rattle.sheet_walk.specs.Steps.{widthRight}
-use Rattle.sheet_walk.specs.declared.Refusal.the-variants.{RecordWidth, Format}
-use Rattle.sheet_write.specs.Writing.{Writing, refuses, writingOf}
+use Rattle.sheet_rows.specs.Rows.{inOrder, rowsBefore}
+use Rattle.sheet_write.specs.Writing.{Writing, writingOf}
 use Rattle.list_text.specs.Lines.{firstLine, afterLine}
 use Rattle.list_text.specs.ListText.{lineValues, lineCheck}
 use Rattle.list_text.specs.Promises.{longestList}
@@ -25,7 +25,7 @@ use Rattle.sheet_text.specs.Input.{mostWidthDigits, widthOn, inputWidth,
 use Rattle.sheet_text.specs.Output.{outputOf}
 use Rattle.sheet_text.specs.SheetOutput.{recordBuffer, sheetOutput}
 use Rattle.sheet_text.specs.Promises.{longestInput, RestUnread}
-use Rattle.sheet_text.proofs.TextLaws.{IsRefused, bad-writing, bad-is-refused}
+use Rattle.sheet_text.proofs.TextLaws.{IsRefused, bad-writing, bad-is-refused, wrong-writing, wrong-is-refused}
 
 -- the output for a width, a format and a list text
 unfoldable out : ℕ → List ℕ → List ℕ → List ℕ
@@ -38,7 +38,7 @@ same-refusal (IsRefused.refused-by why) R S a b vs ws = refl
 -- ---- a width that is refused
 
 wide-out : (R : ℕ) (f g a b : List ℕ) → widthRight R ≡ false → out R f a ≡ out R g b
-unfolding out writingOf
+unfolding out writingOf rowsBefore inOrder
 wide-out R f g a b e = rw e
 
 line-wide : (l : List ℕ) → mostWidthDigits < length l → widthOn l ≡ 0
@@ -52,14 +52,13 @@ unfolding outcome
 long-outcome f h = rw (lt-ltb longestFormat (length f) h)
 
 format-out : (R : ℕ) (f g a b : List ℕ) → longestFormat < length f → longestFormat < length g → out R f a ≡ out R g b
-unfolding out writingOf
+unfolding out
 format-out R f g a b h k =
-    rw (long-outcome f h, long-outcome g k)
-    (go (widthRight R))
-  where
-    go : (t : Bool) → outputOf R a (lineValues a) (cond t (refuses (Format Length)) (refuses RecordWidth)) ≡ outputOf R b (lineValues b) (cond t (refuses (Format Length)) (refuses RecordWidth))
-    go true = refl
-    go false = refl
+    rw (
+      wrong-writing R f (lineCheck a) (lineValues a) recordBuffer (long-outcome f h),
+      wrong-writing R g (lineCheck b) (lineValues b) recordBuffer (long-outcome g k),
+    )
+    (same-refusal (wrong-is-refused R Length) R R a b (lineValues a) (lineValues b))
 
 -- ---- a list text that is too long
 

@@ -9,7 +9,6 @@ use Rattle.number.specs.Digits.{digitsOf, digitCount}
 use Rattle.list_elements.specs.declared.Value.{Value}
 use Rattle.sheet_walk.specs.Laid.{written}
 use Rattle.sheet_walk.specs.Refusals.{refusalNumber, refusalPlace}
-use Rattle.sheet_walk.specs.declared.Refusal.{Refusal}
 use Rattle.write_passes.specs.Placed.{characters, starredIn}
 use Rattle.sheet_write.specs.Writing.{Writing, accepts, refuses}
 use Rattle.list_text.specs.Lines.{lineFeed}

@@ -3,6 +3,7 @@ pub mod fields;
 pub mod items;
 pub mod refusals;
 pub mod turns;
+pub mod width;
 
 use format_items::FormatRefusal;
 

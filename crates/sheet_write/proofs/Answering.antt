@@ -1,40 +1,36 @@
 -- What becomes of a call, from the row that it meets: an acceptable call is accepted, and a row whose condition holds answers.
 -- Assumes nothing.
-use mathlib.Core.Path.{_≡_, refl, sym, ap, subst, _∙_}
-use mathlib.Core.Bool.{Bool, true, false, cond}
+use mathlib.Core.Path.{_≡_, refl, ap, subst, _∙_}
+use mathlib.Core.Bool.{true, cond}
 use mathlib.Core.List.{List}
 use Prim.Native.Nat.{ℕ, _/_, _<_}
-use native.Mathlib.Omega.{arith}
-use borrow.Author.Tests.{le-leb, lt-ltb, eq-eqb, ne-eqb}
+use borrow.Author.Tests.{lt-ltb}
 use lib.IntN.{ℤ, natAbs}
 use lib.ListN.{length}
 use Rattle.number.specs.Limits.{largest}
 use Rattle.number.specs.Rounding.{Nearest, roundedUnits, tooLarge}
 use Rattle.number.proofs.RoundingLaws.{rounded-is}
 use Rattle.format_items.specs.Items.{Field, Items}
-use Rattle.format_grammar.specs.Check as formats
-use Rattle.format_grammar.specs.Promises.{Acceptable, Answers}
-use Rattle.format_grammar.proofs.Promises as grammar
-use Rattle.format_grammar.proofs.Answering.{answered-only}
+use Rattle.format_grammar.specs.Check.{outcome}
 use Rattle.list_elements.specs.Limits.{listCheck}
 use Rattle.list_elements.specs.declared.Decimal.{Decimal}
 use Rattle.list_elements.specs.declared.Value.{Value}
 use Rattle.list_elements.specs.declared.Value.the-variants as value
-use Rattle.list_elements.specs.declared.ListCheck.{ListCheck}
-use Rattle.list_elements.specs.declared.ListCheck.the-variants.{Good, Bad}
-use Rattle.sheet_walk.specs.Steps.{widthRight, What, element, literal, Placement}
-use Rattle.sheet_walk.specs.Promises.{WidthRight, StopsWith}
-use Rattle.sheet_walk.proofs.WidthLaws.{width-passed}
+use Rattle.sheet_walk.specs.Steps.{What, element, literal, Placement}
+use Rattle.sheet_walk.specs.Promises.{StopsWith}
 use Rattle.sheet_walk.specs.Walk.{Trace}
 use Rattle.sheet_walk.specs.Columns.{In, here, there}
 use Rattle.sheet_walk.specs.declared.Refusal.{Refusal}
-use Rattle.sheet_walk.specs.declared.Refusal.the-variants.{RecordWidth, Format, NoRecord, TooLarge}
+use Rattle.sheet_walk.specs.declared.Refusal.the-variants.{TooLarge}
+use Rattle.sheet_rows.specs.Rows as refusing
+use Rattle.sheet_rows.specs.Rows.{formatRow, elementRow, rowsBefore}
 use Rattle.write_passes.specs.Placed.{valueAt, fieldTooLarge, Judged, refused, judgedAt, judged}
 use Rattle.write_passes.proofs.PlacedLaws.{judged-accepts}
 use Rattle.sheet_walk.specs.Answers.{answerNumber, answerPlace}
-use Rattle.sheet_write.specs.Writing.{Writing, accepts, refuses, concluded, walked, checkList, checkFormat, writingOf, answerOf}
-use Rattle.sheet_write.specs.Promises.{Call, valuesOf, becomes, answerTo, Walks, walkOf, RoundsWithin, TooLargeAt, AcceptableCall, AnsweredBy}
+use Rattle.sheet_write.specs.Writing.{Writing, accepts, refuses, concluded, walked, writingOf, answerOf}
+use Rattle.sheet_write.specs.Promises.{Call, valuesOf, becomes, answerTo, Walks, RowBefore, walkOf, RoundsWithin, TooLargeAt, AcceptableCall, AnsweredBy}
 use Rattle.sheet_write.proofs.Rounds.{rounds-small}
+use Rattle.sheet_write.proofs.Calls.{rows-said, walk-is}
 
 -- ---- the check of values over a walk
 
@@ -73,37 +69,24 @@ judged-large vs (TooLargeAt.there {p} {t} r l) = judged-past vs p (judged vs t) 
 -- ---- what becomes of a call that passes the rows before
 
 module _ (c : Call) where
-  past-width : WidthRight (c .R) → becomes c ≡ checkFormat (c .R) (formats.outcome (c .format)) (listCheck (c .area) (c .list)) (valuesOf c) (length (c .buffer))
+  past-rows : (xs : Items) → Walks c xs → becomes c ≡ walked (valuesOf c) (walkOf c xs)
   unfolding writingOf
-  past-width w = rw (le-leb 1 (c .R) (w .from), le-leb (c .R) 255 (w .to))
-
-  past-format : (xs : Items) → WidthRight (c .R) → Acceptable (c .format) xs → (k : ListCheck) → listCheck (c .area) (c .list) ≡ k → becomes c ≡ checkList (c .R) xs k (valuesOf c) (length (c .buffer))
-  past-format xs w f k e = past-width w ∙ rw (grammar.accepts-exactly (c .format) xs .1 f, e)
-
-  past-buffer : (xs : Items) → Walks c xs → becomes c ≡ walked (valuesOf c) (walkOf c xs)
-  past-buffer xs w =
-      let some = w .some-record in
-      let ne : length (c .buffer) / c .R ≡ 0 → ⊥ = λ z. omega arith in
-      past-format xs (w .width) (w .format) Good (w .list) ∙ rw (ne-eqb (length (c .buffer) / c .R) 0 ne)
+  past-rows xs w = rw (rows-said c .passes-only (xs, w), walk-is c xs w)
 
   -- an acceptable call is accepted
   pub passes : (t : Trace) (n : ℕ) → AcceptableCall c t n → becomes c ≡ accepts t n
   passes t n a =
       let j = judged-accepts (valuesOf c) t n (a .ends) (λ p m. rounds-small (valuesOf c) p (a .rounds p m)) in
-      past-buffer (a .xs) (a .walks) ∙ rw (← a .is, j)
+      past-rows (a .xs) (a .walks) ∙ rw (← a .is, j)
 
   -- a walk refused refuses the call
   walk-refuses : (xs : Items) (why : Refusal) → Walks c xs → judged (valuesOf c) (walkOf c xs) ≡ refused why → becomes c ≡ refuses why
-  walk-refuses xs why w e = past-buffer xs w ∙ ap (concluded (walkOf c xs)) e
+  walk-refuses xs why w e = past-rows xs w ∙ ap (concluded (walkOf c xs)) e
 
-  width-refuses : (WidthRight (c .R) → ⊥) → becomes c ≡ refuses RecordWidth
+  row-refuses : {why : Refusal} → rowsBefore (c .R) (formatRow (outcome (c .format))) (elementRow (listCheck (c .area) (c .list))) (length (c .buffer) / c .R) ≡ refusing.refused why
+      → becomes c ≡ refuses why
   unfolding writingOf
-  width-refuses h = go (widthRight (c .R)) refl
-    where
-      go : (b : Bool) → widthRight (c .R) ≡ b
-          → cond b (checkFormat (c .R) (formats.outcome (c .format)) (listCheck (c .area) (c .list)) (valuesOf c) (length (c .buffer))) (refuses RecordWidth) ≡ refuses RecordWidth
-      go true e = absurd (h (width-passed (c .R) e))
-      go false e = refl
+  row-refuses e = rw e
 
   -- ---- what it answers
 
@@ -114,25 +97,16 @@ module _ (c : Call) where
   answers-as : {w : Writing} → becomes c ≡ w → AnswersSo (answerNumber (answerOf (valuesOf c) w)) (answerPlace (answerOf (valuesOf c) w))
   answers-as e = (ap (λ w. answerNumber (answerOf (valuesOf c) w)) e, ap (λ w. answerPlace (answerOf (valuesOf c) w)) e)
 
--- a row of the format check that is met answers for the call
-format-refuses : (c : Call) (k p : ℕ) → WidthRight (c .R) → (k ≡ 0 → ⊥) → Answers (c .format) k p → AnswersSo c k p
-format-refuses c k p w ne a = go (formats.outcome (c .format)) refl
-  where
-    go : (o : formats.Outcome) → formats.outcome (c .format) ≡ o → AnswersSo c k p
-    go (formats.accepted xs) e = absurd (ne (sym (a .number-is) ∙ ap formats.outcomeNumber e))
-    go (formats.refused why) e =
-        let b : becomes c ≡ refuses (Format why) = past-width c w ∙ rw e in
-        let s = answers-as c b in
-        (s .0 ∙ sym (ap formats.outcomeNumber e) ∙ a .number-is, s .1 ∙ sym (ap formats.outcomePlace e) ∙ a .place-is)
+  -- a row before the walk
+  row-answers : {k p : ℕ} → RowBefore c k p → AnswersSo k p
+  row-answers {k} {p} a =
+      let r = rows-said c .answers-only k p a in
+      let s = answers-as (row-refuses (r .is)) in
+      (s .0 ∙ r .number-is, s .1 ∙ r .place-is)
 
 -- the row that is met answers, and no other
 pub meets-only : (c : Call) {k p : ℕ} → AnsweredBy c k p → AnswersSo c k p
 meets-only c (AnsweredBy.acceptable {t} {n} a) = answers-as c (passes c t n a)
-meets-only c (AnsweredBy.wrong-width h) = answers-as c (width-refuses c h)
-meets-only c (AnsweredBy.wrong-format {k} {p} w ne a) = format-refuses c k p w ne (answered-only (c .format) a)
-meets-only c (AnsweredBy.bad-element {xs} {p} w f e) = answers-as c (past-format c xs w f (Bad p) e)
-meets-only c (AnsweredBy.no-record {xs} w f g e) =
-    let b : becomes c ≡ refuses NoRecord = past-format c xs w f Good g ∙ rw (eq-eqb (length (c .buffer) / c .R) 0 e) in
-    answers-as c b
+meets-only c (AnsweredBy.row-before a) = row-answers c a
 meets-only c (AnsweredBy.refused-walk {xs} {why} w s all) = answers-as c (walk-refuses c xs why w (judged-stops (valuesOf c) s all))
 meets-only c (AnsweredBy.too-large {xs} {i} w l) = answers-as c (walk-refuses c xs (TooLarge i) w (judged-large (valuesOf c) l))

@@ -1,32 +1,25 @@
 -- What becomes of a call: it is acceptable, or a row answers; and the buffer after an accepted one.
 -- Assumes nothing.
-use mathlib.Core.Path.{_≡_, refl, ap, subst}
-use mathlib.Core.Bool.{Bool, true, false, cond}
-use Prim.Native.Nat.{ℕ, _/_, _<_}
-use native.Mathlib.Omega.{arith}
-use borrow.Author.Tests.{eqb-true, eqb-false}
-use lib.Dec.{eqb}
+use mathlib.Core.Path.{_≡_, refl, ap}
+use mathlib.Core.List.{map}
+use Prim.Native.Nat.{ℕ, _/_}
 use lib.ListN.{length}
 use Rattle.format_items.specs.Items.{Items}
-use Rattle.format_grammar.specs.Check as formats
-use Rattle.format_grammar.specs.Promises.{Acceptable}
-use Rattle.format_grammar.specs.Promises as formatted
-use Rattle.format_grammar.proofs.Promises as grammar
-use Rattle.format_grammar.proofs.Answering.{numbered}
+use Rattle.format_grammar.specs.Check.{outcome}
+use Rattle.format_grammar.proofs.Promises.{accepts-exactly}
+use Rattle.list_elements.specs.Elements.{kindOf}
 use Rattle.list_elements.specs.Limits.{listCheck}
-use Rattle.list_elements.specs.declared.ListCheck.{ListCheck}
-use Rattle.list_elements.specs.declared.ListCheck.the-variants.{Good, Bad}
-use Rattle.sheet_walk.specs.Steps.{widthRight}
-use Rattle.sheet_walk.specs.Promises.{WidthRight}
-use Rattle.sheet_walk.proofs.WidthLaws.{width-passed, width-right}
+use Rattle.list_elements.specs.declared.ListCheck.the-variants.{Good}
 use Rattle.sheet_walk.specs.Walk.{Trace}
 use Rattle.sheet_walk.specs.Laid.{written}
 use Rattle.sheet_walk.specs.Refusals.{refusalNumber, refusalPlace}
 use Rattle.sheet_walk.specs.declared.Refusal.{Refusal}
-use Rattle.sheet_walk.specs.declared.Refusal.the-variants.{NoRecord, RecordWidth}
+use Rattle.sheet_rows.specs.Rows.{Row, formatRow, elementRow, rowsBefore, afterRows, recordsIn, walkUnder}
+use Rattle.sheet_rows.specs.Promises.{BadElement, RowTold, Says}
+use Rattle.sheet_rows.proofs.RowLaws.{element-row-says, rows-say, walk-under}
 use Rattle.write_passes.specs.Placed.{characters, Judged}
-use Rattle.sheet_write.specs.Writing.{Writing, accepts, refuses, concluded, walked, checkBuffer, checkList, checkFormat, writingOf, bufferOf}
-use Rattle.sheet_write.specs.Promises.{Call, valuesOf, becomes, bufferAfter, Walks, walkOf, AcceptableCall, AnsweredBy}
+use Rattle.sheet_write.specs.Writing.{Writing, accepts, refuses, concluded, walked, writingOf, bufferOf}
+use Rattle.sheet_write.specs.Promises.{Call, valuesOf, becomes, bufferAfter, Walks, RowBefore, walkOf, AcceptableCall, AnsweredBy}
 use Rattle.sheet_write.proofs.Rounds.{Told, told}
 
 -- a writing with the reason for it
@@ -34,44 +27,34 @@ pub data Came (c : Call) : Writing → Type 0 where
   accepted : {t : Trace} {n : ℕ} → AcceptableCall c t n → Came c (accepts t n)
   refused : {why : Refusal} → AnsweredBy c (refusalNumber why) (refusalPlace why) → Came c (refuses why)
 
--- ---- row by row, the last first
+-- ---- the walk
 
 came-walk : (c : Call) (xs : Items) → Walks c xs → {j : Judged} → Told (valuesOf c) (walkOf c xs) j → Came c (concluded (walkOf c xs) j)
 came-walk c xs w (Told.ends e all) = Came.accepted (record { xs = xs; walks = w; is = refl; ends = e; rounds = all })
 came-walk c xs w (Told.stops s all) = Came.refused (AnsweredBy.refused-walk w s all)
 came-walk c xs w (Told.large l) = Came.refused (AnsweredBy.too-large w l)
 
-came-buffer : (c : Call) (xs : Items) → WidthRight (c .R) → Acceptable (c .format) xs → listCheck (c .area) (c .list) ≡ Good → Came c (checkBuffer (c .R) xs (valuesOf c) (length (c .buffer)))
-came-buffer c xs w f g = go (eqb (length (c .buffer) / c .R) 0) refl
-  where
-    go : (b : Bool) → eqb (length (c .buffer) / c .R) 0 ≡ b → Came c (cond b (refuses NoRecord) (walked (valuesOf c) (walkOf c xs)))
-    go true e = Came.refused (AnsweredBy.no-record w f g (eqb-true (length (c .buffer) / c .R) 0 e))
-    go false e =
-        let ne : length (c .buffer) / c .R ≡ 0 → ⊥ = eqb-false (length (c .buffer) / c .R) 0 e in
-        let some : 0 < length (c .buffer) / c .R = omega arith in
-        came-walk c xs (record { width = w; format = f; list = g; some-record = some }) (told (valuesOf c) (walkOf c xs))
+-- ---- the rows before it
 
-came-list : (c : Call) (xs : Items) → WidthRight (c .R) → Acceptable (c .format) xs → (k : ListCheck) → listCheck (c .area) (c .list) ≡ k → Came c (checkList (c .R) xs k (valuesOf c) (length (c .buffer)))
-came-list c xs w f Good e = came-buffer c xs w f e
-came-list c xs w f (Bad p) e = Came.refused (AnsweredBy.bad-element w f e)
+-- what they say
+pub rows-said : (c : Call)
+    → Says (rowsBefore (c .R) (formatRow (outcome (c .format))) (elementRow (listCheck (c .area) (c .list))) (length (c .buffer) / c .R)) ((xs : Items) × Walks c xs) (RowBefore c)
+rows-said c =
+    rows-say (c .R) (c .format) (elementRow (listCheck (c .area) (c .list))) (listCheck (c .area) (c .list) ≡ Good) (BadElement (listCheck (c .area) (c .list)))
+    (length (c .buffer) / c .R) (element-row-says (listCheck (c .area) (c .list)))
 
-came-format : (c : Call) → WidthRight (c .R) → (o : formats.Outcome) → formats.outcome (c .format) ≡ o → Came c (checkFormat (c .R) o (listCheck (c .area) (c .list)) (valuesOf c) (length (c .buffer)))
-came-format c w (formats.accepted xs) e = came-list c xs w (grammar.accepts-exactly (c .format) xs .0 e) (listCheck (c .area) (c .list)) refl
-came-format c w (formats.refused why) e =
-    Came.refused (AnsweredBy.wrong-format w (numbered why)
-    (subst (λ o. formatted.AnsweredBy (c .format) (formats.outcomeNumber o) (formats.outcomePlace o)) e (grammar.always-answered (c .format))))
+-- its walk
+pub walk-is : (c : Call) (xs : Items) → Walks c xs → walkUnder (c .format) (map kindOf (valuesOf c)) (recordsIn (c .R) (length (c .buffer))) ≡ walkOf c xs
+walk-is c xs w = walk-under (c .format) xs (map kindOf (valuesOf c)) (recordsIn (c .R) (length (c .buffer))) (accepts-exactly (c .format) xs .1 (w .format))
 
 pub came : (c : Call) → Came c (becomes c)
 unfolding writingOf
-came c = go (widthRight (c .R)) refl
+came c = go (rows-said c .told)
   where
-    go : (b : Bool) → widthRight (c .R) ≡ b → Came c (cond b (checkFormat (c .R) (formats.outcome (c .format)) (listCheck (c .area) (c .list)) (valuesOf c) (length (c .buffer))) (refuses RecordWidth))
-    go true e = came-format c (width-passed (c .R) e) (formats.outcome (c .format)) refl
-    go false e =
-        Came.refused (AnsweredBy.wrong-width (λ w.
-        let t = width-right (c .R) w in
-        let z : _≡_ {A = ℕ} 0 1 = cc in
-        omega arith))
+    go : {row : Row} → RowTold ((xs : Items) × Walks c xs) (RowBefore c) row
+        → Came c (afterRows refuses row (walked (valuesOf c) (walkUnder (c .format) (map kindOf (valuesOf c)) (recordsIn (c .R) (length (c .buffer))))))
+    go (RowTold.passes p) = rw (walk-is c (p .0) (p .1)) (came-walk c (p .0) (p .1) (told (valuesOf c) (walkOf c (p .0))))
+    go (RowTold.answers a) = Came.refused (AnsweredBy.row-before a)
 
 -- ---- the buffer afterwards
 

@@ -2,13 +2,11 @@
 -- Assumes nothing.
 use mathlib.Core.Path.{_≡_, refl, sym, ap, _∙_}
 use mathlib.Core.List.{List}
-use Prim.Native.Nat.{ℕ, _<_, _≤_}
+use Prim.Native.Nat.{ℕ}
 use native.Mathlib.Omega.{arith}
-use borrow.Author.Tests.{le-leb, lt-leb}
 use lib.IntN.{ℤ}
 use lib.ListN.{length, take}
 use lib.Seq.{length-take-le}
-use Rattle.format_grammar.specs.Check.{outcome}
 use Rattle.list_elements.specs.Elements.{values}
 use Rattle.list_elements.specs.Limits.{withinLimits, listCheck}
 use Rattle.list_elements.specs.Apart.{Apart, usableCount}
@@ -17,29 +15,10 @@ use Rattle.list_elements.specs.declared.Value.{Value}
 use Rattle.list_elements.specs.declared.List as carried
 use Rattle.list_elements.specs.declared.ListCheck.{ListCheck}
 use Rattle.list_elements.specs.declared.ListCheck.the-variants.{Good}
-use Rattle.sheet_walk.specs.declared.Refusal.the-variants.{RecordWidth}
 use Rattle.sheet_walk.specs.Answers.{answerNumber, answerPlace, answerRecords, answerStarred}
-use Rattle.sheet_write.specs.Writing.{Writing, accepts, refuses, checkFormat, writingOf, answerOf, bufferOf, writingNumber, writingPlace, writingRecords, writingStarred}
+use Rattle.sheet_write.specs.Writing.{Writing, accepts, refuses, writingOf, answerOf, bufferOf, writingNumber, writingPlace, writingRecords, writingStarred}
 use Rattle.sheet_write.specs.Parts.{ListedIf, Wrote}
 use Rattle.sheet_walk.specs.declared.Answer.{Answer}
-use Rattle.sheet_walk.specs.declared.Answer.the-variants as answer
-
--- ---- row 1
-
-module _ (R : ℕ) (format : List ℕ) (check : ListCheck) (vs : List Value) {area : List ℕ} (before : List ℕ) where
-  pub width-none : R < 1 → Wrote R area vs before (writingOf R format check vs (length before)) (answer.Refused RecordWidth) before
-  unfolding writingOf
-  width-none h = rw (lt-leb 1 R h) (record { answers = refl; bytes = refl })
-
-  pub width-over : 1 ≤ R → 255 < R → Wrote R area vs before (writingOf R format check vs (length before)) (answer.Refused RecordWidth) before
-  unfolding writingOf
-  width-over l h = rw (le-leb 1 R l, lt-leb R 255 h) (record { answers = refl; bytes = refl })
-
-  pub width-right : 1 ≤ R → R ≤ 255 → (k : ListCheck) → k ≡ check → {r : Answer} {after : List ℕ}
-      → Wrote R area vs before (checkFormat R (outcome format) k vs (length before)) r after
-      → Wrote R area vs before (writingOf R format check vs (length before)) r after
-  unfolding writingOf
-  width-right l h k e w = rw (le-leb 1 R l, le-leb R 255 h, ← e) w
 
 -- ---- the list taken apart
 
@@ -55,6 +34,11 @@ module _ (area : List ℕ) (l : carried.List) (check : ListCheck) (is : check �
               let m : length (take (l .count) kinds) ≡ l .count = length-take-le (l .count) kinds (omega (arith, f .1)) in
               rw c (record { apart = apart g; good = f .0; few = omega (arith, f .1, m) });
         }
+
+-- the check, as the definition has it
+pub checked-so : {R : ℕ} (format : List ℕ) {area : List ℕ} {vs : List Value} {before : List ℕ} {k check : ListCheck} {r : Answer} {after : List ℕ} → k ≡ check
+    → Wrote R area vs before (writingOf R format k vs (length before)) r after → Wrote R area vs before (writingOf R format check vs (length before)) r after
+checked-so format e w = rw (← e) w
 
 -- ---- the answer's number, place, records and starred
 

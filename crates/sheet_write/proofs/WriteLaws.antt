@@ -1,11 +1,11 @@
 -- What the inner functions of writing do, from what their callees say.
 -- Assumes nothing.
 use mathlib.Core.Path.{_≡_, refl, sym, ap, subst, _∙_}
+use mathlib.Core.Bool.{false}
 use mathlib.Core.List.{List, map}
 use Prim.Native.Nat.{ℕ, _*_, _/_, _^_, _<_, _≤_}
 use native.Mathlib.Nat.{mul-le-mul-right}
 use native.Mathlib.Omega.{arith}
-use borrow.Author.Tests.{eq-eqb, ne-eqb}
 use lib.IntN.{ℤ}
 use lib.ListN.{length, replicate}
 use Rattle.buffer.specs.Splice.{splice}
@@ -26,13 +26,18 @@ use Rattle.sheet_walk.specs.declared.Refusal.the-variants as refusal
 use Rattle.sheet_walk.specs.declared.Records.{Records}
 use Rattle.sheet_walk.proofs.Covering.{covers-reached}
 use Rattle.sheet_walk.proofs.Passes.{walkable}
+use Rattle.sheet_walk.specs.Steps.{widthRight}
+use Rattle.sheet_walk.specs.Promises.{WidthRight}
+use Rattle.sheet_rows.specs.Rows as rows-of
+use Rattle.sheet_rows.specs.Rows.{formatRow, elementRow, rowsBefore, recordsIn}
+use Rattle.sheet_rows.proofs.RowLaws as row
 use Rattle.sheet_rows.proofs.Loads.{run-loaded, run-sheet}
 use Rattle.write_passes.specs.Placed.{characters, starredIn, Judged, accepted, refused, judged}
 use Rattle.write_passes.specs.Passes.{Ready, endingOf}
 use Rattle.sheet_walk.specs.declared.Ending.{Ending}
 use Rattle.sheet_walk.specs.declared.Ending.the-variants as ending
 use Rattle.write_passes.proofs.PlacedLaws.{judged-ends}
-use Rattle.sheet_write.specs.Writing.{walked, checkBuffer, checkFormat}
+use Rattle.sheet_write.specs.Writing.{walked, writingOf}
 use Rattle.sheet_write.specs.Parts.{Listed, Wrote}
 use Rattle.sheet_walk.specs.declared.Answer.{Answer}
 use Rattle.sheet_walk.specs.declared.Answer.the-variants as answer
@@ -88,23 +93,31 @@ module _ {format t words : List ℕ} {back : ℕ} (h : RunHeld format t words ba
 
 -- ---- the rows before the walk
 
-module _ (R : ℕ) {area : List ℕ} {vs : List Value} {before : List ℕ} (xs : Items) where
-  pub no-record : length before / R ≡ 0 → Wrote R area vs before (checkBuffer R xs vs (length before)) (answer.Refused refusal.NoRecord) before
-  no-record e = rw (eq-eqb (length before / R) 0 e) (record { answers = refl; bytes = refl })
+module _ (R : ℕ) (text : List ℕ) (check : ListCheck) {area : List ℕ} {vs : List Value} {before : List ℕ} where
+  row-refuses : {why : Refusal} → rowsBefore R (formatRow (formats.outcome text)) (elementRow check) (length before / R) ≡ rows-of.refused why
+      → Wrote R area vs before (writingOf R text check vs (length before)) (answer.Refused why) before
+  unfolding writingOf
+  row-refuses e = rw e (record { answers = refl; bytes = refl })
 
-  pub some-record : (length before / R ≡ 0 → ⊥) → {r : Answer} {after : List ℕ}
-      → Wrote R area vs before (walked vs (walk (sheet xs (map kindOf vs) (record { width = R; count = length before / R })))) r after
-      → Wrote R area vs before (checkBuffer R xs vs (length before)) r after
-  some-record n w = rw (ne-eqb (length before / R) 0 n) w
+  pub width-refuses : widthRight R ≡ false → Wrote R area vs before (writingOf R text check vs (length before)) (answer.Refused refusal.RecordWidth) before
+  width-refuses e = row-refuses (row.width-refuses R text (elementRow check) (length before / R) e)
 
-module _ (R : ℕ) {area : List ℕ} {vs : List Value} {before : List ℕ} {o : formats.Outcome} (check : ListCheck) where
-  pub format-refused : {why : FormatRefusal} → o ≡ formats.refused why → Wrote R area vs before (checkFormat R o check vs (length before)) (answer.Refused (refusal.Format why)) before
-  format-refused e = rw e (record { answers = refl; bytes = refl })
+  module _ (w : WidthRight R) where
+    pub format-refuses : {why : FormatRefusal} → formats.outcome text ≡ formats.refused why
+        → Wrote R area vs before (writingOf R text check vs (length before)) (answer.Refused (refusal.Format why)) before
+    format-refuses e = row-refuses (row.format-refuses R text (elementRow check) (length before / R) w e)
 
-  pub list-refused : {xs : Items} {p : ℕ} → o ≡ formats.accepted xs → check ≡ Bad p
-      → Wrote R area vs before (checkFormat R o check vs (length before)) (answer.Refused (refusal.Element p)) before
-  list-refused e g = rw (e, g) (record { answers = refl; bytes = refl })
+    module _ {xs : Items} (a : formats.outcome text ≡ formats.accepted xs) where
+      pub list-refuses : {p : ℕ} → check ≡ Bad p → Wrote R area vs before (writingOf R text check vs (length before)) (answer.Refused (refusal.Element p)) before
+      list-refuses e = row-refuses (row.list-refuses R text (elementRow check) (length before / R) w a (ap elementRow e))
 
-  pub both-good : {xs : Items} → o ≡ formats.accepted xs → check ≡ Good → {r : Answer} {after : List ℕ}
-      → Wrote R area vs before (checkBuffer R xs vs (length before)) r after → Wrote R area vs before (checkFormat R o check vs (length before)) r after
-  both-good e g w = rw (e, g) w
+      module _ (g : check ≡ Good) where
+        pub no-record : length before / R ≡ 0 → Wrote R area vs before (writingOf R text check vs (length before)) (answer.Refused refusal.NoRecord) before
+        no-record e = row-refuses (row.record-refuses R text (elementRow check) (length before / R) w a (ap elementRow g) e)
+
+        pub rows-passed : (length before / R ≡ 0 → ⊥) → {r : Answer} {after : List ℕ}
+            → Wrote R area vs before (walked vs (walk (sheet xs (map kindOf vs) (recordsIn R (length before))))) r after
+            → Wrote R area vs before (writingOf R text check vs (length before)) r after
+        unfolding writingOf
+        rows-passed n d =
+            rw (row.all-passed R text (elementRow check) (length before / R) w a (ap elementRow g) n, row.walk-under text xs (map kindOf vs) (recordsIn R (length before)) a) d

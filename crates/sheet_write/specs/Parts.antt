@@ -6,7 +6,6 @@ use mathlib.Core.List.{List}
 use Prim.Native.Nat.{ℕ, _^_, _<_}
 use lib.IntN.{ℤ}
 use lib.ListN.{length}
-use Rattle.format_grammar.specs.Check.{outcome}
 use Rattle.format_load.specs.Loaded.{RunHeld}
 use Rattle.list_elements.specs.Limits.{firstBad}
 use Rattle.list_elements.specs.Apart.{Apart}
@@ -17,7 +16,7 @@ use Rattle.sheet_walk.specs.Walk.{walk}
 use Rattle.sheet_walk.specs.Turns.{sheetOf}
 use Rattle.sheet_walk.specs.declared.Records.{Records}
 use Rattle.write_passes.specs.Passes.{Ready}
-use Rattle.sheet_write.specs.Writing.{Writing, walked, checkFormat, answerOf, bufferOf}
+use Rattle.sheet_write.specs.Writing.{Writing, walked, writingOf, answerOf, bufferOf}
 use Rattle.sheet_walk.specs.declared.Answer.{Answer}
 
 -- a loaded run and a good list taken apart, for some list of values
@@ -54,9 +53,9 @@ pub record WroteWords (rs : Records) (words : List ℕ) (back : ℕ) (t kinds : 
 -- under the run of a format
 pub record WroteRun (width : ℕ) (t words : List ℕ) (back : ℕ) (check : ListCheck) (kinds : List ℕ) (amounts : List ℤ) (details area before : List ℕ) (r : Answer) (after : List ℕ) : Type 0 where
   pub wrote : (vs : List Value) (format : List ℕ) → RunHeld format t words back → ListedIf check area vs kinds amounts details
-      → Wrote width area vs before (checkFormat width (outcome format) check vs (length before)) r after
+      → Wrote width area vs before (writingOf width format check vs (length before)) r after
 
 -- under a format's text
 pub record WroteText (width : ℕ) (text : List ℕ) (check : ListCheck) (kinds : List ℕ) (amounts : List ℤ) (details area before : List ℕ) (r : Answer) (after : List ℕ) : Type 0 where
   pub wrote : (vs : List Value) → ListedIf check area vs kinds amounts details
-      → Wrote width area vs before (checkFormat width (outcome text) check vs (length before)) r after
+      → Wrote width area vs before (writingOf width text check vs (length before)) r after

@@ -14,22 +14,22 @@ use Rattle.field_written.specs.Numeral.{Numeric, plain, Numeral, standsFor}
 use Rattle.field_written.specs.Numeral as numeral
 use Rattle.field_written.specs.Promises.{AsWritten}
 use Rattle.format_items.specs.Items.{Field, Items}
-use Rattle.format_grammar.specs.Promises as grammar
-use Rattle.format_grammar.specs.Promises.{Acceptable}
 use Rattle.list_elements.specs.Elements.{kindOf, values}
 use Rattle.list_elements.specs.Limits.{listCheck}
 use Rattle.list_elements.specs.declared.Decimal.{Decimal}
 use Rattle.list_elements.specs.declared.Value.{Value}
 use Rattle.list_elements.specs.declared.Value.the-variants as value
 use Rattle.list_elements.specs.declared.List as carried
-use Rattle.list_elements.specs.declared.ListCheck.the-variants.{Good, Bad}
+use Rattle.list_elements.specs.declared.ListCheck.the-variants.{Good}
 use Rattle.sheet_walk.specs.Refusals.{refusalNumber, refusalPlace}
 use Rattle.sheet_walk.specs.Steps.{element, Placement}
 use Rattle.sheet_walk.specs.Walk.{Trace, put, done, stopped, sheet, walk}
 use Rattle.sheet_walk.specs.Columns.{In, coveredTwice, LastCovers, Uncovered}
 use Rattle.sheet_walk.specs.Laid.{offset, columns}
-use Rattle.sheet_walk.specs.Promises.{WidthRight, EndsWith, Inside, Suited, StopsWith, elementsPut, numbersFrom}
+use Rattle.sheet_walk.specs.Promises.{EndsWith, Inside, Suited, StopsWith, elementsPut, numbersFrom}
 use Rattle.sheet_walk.specs.declared.Refusal.{Refusal}
+use Rattle.sheet_rows.specs.Rows.{recordsIn}
+use Rattle.sheet_rows.specs.Promises.{RowsPassed, RowAnswers, BadElement}
 use Rattle.write_passes.specs.Placed.{valueAt, characters}
 use Rattle.sheet_walk.specs.Answers.{answerNumber, answerPlace, answerRecords, answerStarred}
 use Rattle.sheet_write.specs.Writing.{Writing, accepts, refuses, writing, writeAnswer, writeBuffer}
@@ -68,15 +68,16 @@ bufferAfter c = writeBuffer (c .R) (c .format) (c .list) (c .area) (c .buffer)
 -- refusal on the walk counts'
 
 -- every row before the walk is passed, the format's items being xs
-pub record Walks (c : Call) (xs : Items) : Type 0 where
-  pub width : WidthRight (c .R)
-  pub format : Acceptable (c .format) xs
-  pub list : listCheck (c .area) (c .list) ≡ Good
-  pub some-record : 0 < length (c .buffer) / c .R
+abbrev pub Walks : Call → Items → Type 0
+Walks c xs = RowsPassed (c .R) (c .format) (listCheck (c .area) (c .list) ≡ Good) (length (c .buffer) / c .R) xs
+
+-- one of them answers with a number and a place
+abbrev pub RowBefore : Call → ℕ → ℕ → Type 0
+RowBefore c = RowAnswers (c .R) (c .format) (listCheck (c .area) (c .list) ≡ Good) (BadElement (listCheck (c .area) (c .list))) (length (c .buffer) / c .R)
 
 -- its walk
 abbrev pub walkOf : Call → Items → Trace
-walkOf c xs = walk (sheet xs (map kindOf (valuesOf c)) (record { width = c .R; count = length (c .buffer) / c .R }))
+walkOf c xs = walk (sheet xs (map kindOf (valuesOf c)) (recordsIn (c .R) (length (c .buffer))))
 
 -- 'The rounded units must have magnitude at most 10^18 − 1': what a placement puts is no decimal that is rounded beyond that
 abbrev pub RoundsWithin : List Value → Placement → Type 0
@@ -101,10 +102,7 @@ pub record AcceptableCall (c : Call) (t : Trace) (n : ℕ) : Type 0 where
 -- what answers with a number and a place: acceptance, or a row
 pub data AnsweredBy (c : Call) : ℕ → ℕ → Type 0 where
   acceptable : {t : Trace} {n : ℕ} → AcceptableCall c t n → AnsweredBy c 0 0
-  wrong-width : (WidthRight (c .R) → ⊥) → AnsweredBy c 1 0
-  wrong-format : {k p : ℕ} → WidthRight (c .R) → (k ≡ 0 → ⊥) → grammar.AnsweredBy (c .format) k p → AnsweredBy c k p
-  bad-element : {xs : Items} {p : ℕ} → WidthRight (c .R) → Acceptable (c .format) xs → listCheck (c .area) (c .list) ≡ Bad p → AnsweredBy c 6 p
-  no-record : {xs : Items} → WidthRight (c .R) → Acceptable (c .format) xs → listCheck (c .area) (c .list) ≡ Good → length (c .buffer) / c .R ≡ 0 → AnsweredBy c 9 0
+  row-before : {k p : ℕ} → RowBefore c k p → AnsweredBy c k p
   refused-walk : {xs : Items} {why : Refusal} → Walks c xs → StopsWith why (walkOf c xs) → ((p : Placement) → In p (walkOf c xs) → RoundsWithin (valuesOf c) p)
       → AnsweredBy c (refusalNumber why) (refusalPlace why)
   too-large : {xs : Items} {i : ℕ} → Walks c xs → TooLargeAt (valuesOf c) i (walkOf c xs) → AnsweredBy c 11 i

@@ -1,25 +1,20 @@
 -- Document 01, 'The walk' and 'Checks by place': writing. The outcome and the buffer afterwards, for every record width R,
 -- format, list, text area and buffer.
 -- Assumes nothing.
-use mathlib.Core.Bool.{cond}
 use mathlib.Core.List.{List, map}
 use Prim.Native.Nat.{ℕ, _/_}
-use lib.Dec.{eqb}
 use lib.ListN.{length}
-use Rattle.format_items.specs.Items.{Items}
-use Rattle.format_grammar.specs.Check as formats
+use Rattle.format_grammar.specs.Check.{outcome}
 use Rattle.list_elements.specs.Elements.{kindOf, values}
 use Rattle.list_elements.specs.Limits.{listCheck}
 use Rattle.list_elements.specs.declared.Value.{Value}
 use Rattle.list_elements.specs.declared.List as carried
 use Rattle.list_elements.specs.declared.ListCheck.{ListCheck}
-use Rattle.list_elements.specs.declared.ListCheck.the-variants.{Good, Bad}
 use Rattle.sheet_walk.specs.Refusals.{refusalNumber, refusalPlace}
-use Rattle.sheet_walk.specs.Steps.{widthRight}
-use Rattle.sheet_walk.specs.Walk.{Trace, sheet, walk}
+use Rattle.sheet_walk.specs.Walk.{Trace}
 use Rattle.sheet_walk.specs.Laid.{written}
 use Rattle.sheet_walk.specs.declared.Refusal.{Refusal}
-use Rattle.sheet_walk.specs.declared.Refusal.the-variants.{RecordWidth, Format, Element, NoRecord}
+use Rattle.sheet_rows.specs.Rows.{formatRow, elementRow, rowsBefore, afterRows, recordsIn, walkUnder}
 use Rattle.write_passes.specs.Placed.{characters, starredIn, Judged, accepted, refused, judged}
 use Rattle.sheet_walk.specs.declared.Answer.{Answer}
 use Rattle.sheet_walk.specs.declared.Answer.the-variants as answer
@@ -38,26 +33,10 @@ concluded t (refused why) = refuses why
 abbrev pub walked : List Value → Trace → Writing
 walked vs t = concluded t (judged vs t)
 
--- ---- the rows before the walk, 'in this order'; each is written with the rows that apply after it, so that row 1 stands last
-
--- row 9, 'buffer, before the walk': 'A lent buffer of B bytes holds B / R whole records, rounded down.'
-abbrev pub checkBuffer : ℕ → Items → List Value → ℕ → Writing
-checkBuffer R xs vs B =
-    cond (eqb (B / R) 0) (refuses NoRecord) (walked vs (walk (sheet xs (map kindOf vs) (record { width = R; count = B / R }))))
-
--- row 6
-abbrev pub checkList : ℕ → Items → ListCheck → List Value → ℕ → Writing
-checkList R xs Good vs B = checkBuffer R xs vs B
-checkList R xs (Bad p) vs B = refuses (Element p)
-
--- rows 2 to 5
-abbrev pub checkFormat : ℕ → formats.Outcome → ListCheck → List Value → ℕ → Writing
-checkFormat R (formats.accepted xs) check vs B = checkList R xs check vs B
-checkFormat R (formats.refused why) check vs B = refuses (Format why)
-
--- row 1: the whole of writing, for a list whose check is given and that has the values vs
+-- the whole of writing, for a list whose check is given and that has the values vs: the rows before the walk, and the walk's
 unfoldable pub writingOf : ℕ → List ℕ → ListCheck → List Value → ℕ → Writing
-writingOf R format check vs B = cond (widthRight R) (checkFormat R (formats.outcome format) check vs B) (refuses RecordWidth)
+writingOf R format check vs B =
+    afterRows refuses (rowsBefore R (formatRow (outcome format)) (elementRow check) (B / R)) (walked vs (walkUnder format (map kindOf vs) (recordsIn R B)))
 
 -- for the carried list
 abbrev pub writing : ℕ → List ℕ → carried.List → List ℕ → ℕ → Writing

@@ -7,8 +7,8 @@ use list_elements::ListCheck;
 use sheet_walk::Answer;
 use sheet_walk::Records;
 use sheet_walk::Refusal;
-ghost use Prim.Native.Nat.{_≤_, _<_};
 ghost use Rattle.format_load.specs.Loaded.{SomeRun};
+ghost use Rattle.sheet_walk.specs.Promises.{WidthRight};
 ghost use Rattle.sheet_write.specs.Parts.{SomeListedIf, WroteRun, WroteText};
 
 // Under a format that was loaded, if the list is good and there is a record: rows 6 and 9, and the walk.
@@ -24,7 +24,7 @@ fn write_loaded(
     area: &[u8],
     buffer: &mut [u8],
 ) -> Answer
-    requires { ⌜ (1 ≤ width) × (width < 256) × SomeRun (now chars) (now words) back × SomeListedIf check (now area) (now kinds) (now amounts) (now details) ⌝ }
+    requires { ⌜ WidthRight width × SomeRun (now chars) (now words) back × SomeListedIf check (now area) (now kinds) (now amounts) (now details) ⌝ }
     ensures { λ r. ⌜ WroteRun width (now (chars .entry)) (now (words .entry)) back check (now (kinds .entry)) (now (amounts .entry)) (now (details .entry)) (now (area .entry)) (now (buffer .entry)) r (now (buffer .exit)) ⌝ }
 {
     match check {
@@ -61,7 +61,7 @@ fn write_large(
     area: &[u8],
     buffer: &mut [u8],
 ) -> Answer
-    requires { ⌜ (1 ≤ width) × (width < 256) × SomeListedIf check (now area) (now kinds) (now amounts) (now details) ⌝ }
+    requires { ⌜ WidthRight width × SomeListedIf check (now area) (now kinds) (now amounts) (now details) ⌝ }
     ensures { λ r. ⌜ WroteText width (now (format .entry)) check (now (kinds .entry)) (now (amounts .entry)) (now (details .entry)) (now (area .entry)) (now (buffer .entry)) r (now (buffer .exit)) ⌝ }
 {
     let mut entries = [0u64; 1024];
@@ -97,7 +97,7 @@ fn write_middle(
     area: &[u8],
     buffer: &mut [u8],
 ) -> Answer
-    requires { ⌜ (1 ≤ width) × (width < 256) × SomeListedIf check (now area) (now kinds) (now amounts) (now details) ⌝ }
+    requires { ⌜ WidthRight width × SomeListedIf check (now area) (now kinds) (now amounts) (now details) ⌝ }
     ensures { λ r. ⌜ WroteText width (now (format .entry)) check (now (kinds .entry)) (now (amounts .entry)) (now (details .entry)) (now (area .entry)) (now (buffer .entry)) r (now (buffer .exit)) ⌝ }
 {
     let mut entries = [0u64; 256];
@@ -134,7 +134,7 @@ pub fn write_small(
     area: &[u8],
     buffer: &mut [u8],
 ) -> Answer
-    requires { ⌜ (1 ≤ width) × (width < 256) × SomeListedIf check (now area) (now kinds) (now amounts) (now details) ⌝ }
+    requires { ⌜ WidthRight width × SomeListedIf check (now area) (now kinds) (now amounts) (now details) ⌝ }
     ensures { λ r. ⌜ WroteText width (now (format .entry)) check (now (kinds .entry)) (now (amounts .entry)) (now (details .entry)) (now (area .entry)) (now (buffer .entry)) r (now (buffer .exit)) ⌝ }
 {
     let mut entries = [0u64; 64];

@@ -2,8 +2,7 @@
 -- Assumes nothing.
 use mathlib.Core.Path.{sym}
 use lib.Seq.{length-take-le}
-use Rattle.format_grammar.specs.Check.{outcome}
-use Rattle.sheet_read.proofs.ReadLaws.{format-refused}
+use Rattle.sheet_read.proofs.ReadLaws.{format-refuses}
 use borrow.Author.Needs.{needs}
 use Rattle.sheet_read.proofs.formats.read_middle.Statement.{statement}
 use Rattle.sheet_read.proofs.formats.read_middle.Tie as tie
@@ -42,10 +41,10 @@ slice-aggregate-read-loaded-2 : tie.Need-slice-aggregate-read-loaded-2
 slice-aggregate-read-loaded-2 c = search needs
 
 read-loaded-requires : tie.Need-read-loaded-requires
-read-loaded-requires c κs = let a = c .before .before .before .before .before .before .before .before .before .before .before .before .before .before .before .before .before .before in (a .pre .0, a .pre .1, record { format = a .args .format .now; held = (rw (c .before .before .before .before .before .end .given .1) at (c .before .before .before .before .before .before .before .before .before .before .load .ensures)) .1 }, a .pre .2, a .pre .3, a .pre .4)
+read-loaded-requires c κs = let a = c .before .before .before .before .before .before .before .before .before .before .before .before .before .before .before .before .before .before in (a .pre .0, record { format = a .args .format .now; held = (rw (c .before .before .before .before .before .end .given .1) at (c .before .before .before .before .before .before .before .before .before .before .load .ensures)) .1 }, a .pre .1, a .pre .2, a .pre .3)
 
 returns : tie.Need-returns
-returns c = let a = c .before .before .before .before .before .before .before .before .before .before .before .before .before .before in record { read = format-refused (a .args .width) (outcome (a .args .format .now)) (a .args .check) (a .args .kinds .now) (a .args .room) (a .args .records .now) (rw (c .before .refusal .given .1) at (c .before .before .before .before .before .before .load .ensures)) }
+returns c = let a = c .before .before .before .before .before .before .before .before .before .before .before .before .before .before in record { read = format-refuses (a .args .width) (a .args .format .now) (a .args .check) (a .args .kinds .now) (a .args .room) (a .args .records .now) (a .pre .0) (rw (c .before .refusal .given .1) at (c .before .before .before .before .before .before .load .ensures)) }
 
 same-length : tie.Need-same-length
 same-length c = search needs

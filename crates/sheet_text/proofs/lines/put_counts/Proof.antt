@@ -5,7 +5,7 @@ use Rattle.sheet_text.proofs.lines.put_counts.Statement.{statement}
 use Rattle.sheet_text.proofs.lines.put_counts.Tie as tie
 use native.Mathlib.Omega.{arith}
 use Rattle.buffer.specs.Characters.{bytes}
-use Rattle.sheet_text.proofs.PutLaws.{Put, put-then, counts-are, put-all}
+use Rattle.sheet_text.proofs.PutLaws.{put-then, counts-are, put-all}
 
 slice-aggregate-put-bytes : tie.Need-slice-aggregate-put-bytes
 slice-aggregate-put-bytes c = search needs

@@ -4,7 +4,6 @@ use Rattle.sheet_text.proofs.lines.put_records.Statement.{statement}
 use Rattle.sheet_text.proofs.lines.put_records.Tie as tie
 use native.Mathlib.Omega.{arith}
 use borrow.Author.Needs.{needs}
-use mathlib.Core.Path.{sym, ap, _∙_}
 use Prim.Native.Nat.{_-_}
 use Rattle.sheet_text.proofs.LineLaws.{Listed, listed-none, next-from, next-at, listed-more, listed-all}
 

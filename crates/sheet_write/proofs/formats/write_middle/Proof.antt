@@ -2,7 +2,7 @@
 -- Assumes nothing.
 use mathlib.Core.Path.{sym}
 use lib.Seq.{length-take-le}
-use Rattle.sheet_write.proofs.WriteLaws.{format-refused}
+use Rattle.sheet_write.proofs.WriteLaws.{format-refuses}
 use borrow.Author.Needs.{needs}
 use Rattle.sheet_write.proofs.formats.write_middle.Statement.{statement}
 use Rattle.sheet_write.proofs.formats.write_middle.Tie as tie
@@ -41,10 +41,10 @@ slice-aggregate-write-loaded-2 : tie.Need-slice-aggregate-write-loaded-2
 slice-aggregate-write-loaded-2 c = search needs
 
 write-loaded-requires : tie.Need-write-loaded-requires
-write-loaded-requires c κs = let a = c .before .before .before .before .before .before .before .before .before .before .before .before .before .before .before .before .before .before in (a .pre .0, a .pre .1, record { format = a .args .format .now; held = (rw (c .before .before .before .before .end .given .1) at (c .before .before .before .before .before .before .before .before .before .load .ensures)) .1 }, a .pre .2)
+write-loaded-requires c κs = let a = c .before .before .before .before .before .before .before .before .before .before .before .before .before .before .before .before .before .before in (a .pre .0, record { format = a .args .format .now; held = (rw (c .before .before .before .before .end .given .1) at (c .before .before .before .before .before .before .before .before .before .load .ensures)) .1 }, a .pre .1)
 
 returns : tie.Need-returns
-returns c = let a = c .before .before .before .before .before .before .before .before .before .before .before .before .before .before .before in record { wrote = λ vs l. format-refused (a .args .width) (a .args .check) (rw (c .before .refusal .given .1) at (c .before .before .before .before .before .before .load .ensures)) }
+returns c = let a = c .before .before .before .before .before .before .before .before .before .before .before .before .before .before .before in record { wrote = λ vs l. format-refuses (a .args .width) (a .args .format .now) (a .args .check) (a .pre .0) (rw (c .before .refusal .given .1) at (c .before .before .before .before .before .before .load .ensures)) }
 
 same-length : tie.Need-same-length
 same-length c = search needs

@@ -1,6 +1,7 @@
 -- `sheet_write::write::write` meets its contract.
 -- Assumes nothing.
-use mathlib.Core.Path.{_≡_, sym}
+use mathlib.Core.Path.{_≡_, sym, _∙_}
+use borrow.Author.Tests.{not-true, not-false}
 use native.Mathlib.Omega.{arith}
 use Prim.Native.Nat.{_≤_}
 use lib.ListN.{length}
@@ -8,7 +9,10 @@ use lib.Seq.{length-take-le}
 use Rattle.list_elements.specs.Elements.{values}
 use Rattle.list_elements.specs.Limits.{withinLimits, listCheck}
 use Rattle.list_elements.proofs.ApartLaws.{usable-few}
-use Rattle.sheet_write.proofs.Whole.{width-none, width-over, width-right, listed-if, promised}
+use Rattle.sheet_write.proofs.WriteLaws.{width-refuses}
+use Rattle.sheet_write.proofs.Whole.{checked-so, listed-if, promised}
+use Rattle.sheet_walk.specs.Promises.{WidthRight}
+use Rattle.sheet_walk.proofs.WidthLaws.{width-passed}
 use borrow.Author.Needs.{needs}
 use Rattle.sheet_write.proofs.write.write.Statement.{statement}
 use Rattle.sheet_write.proofs.write.write.Tie as tie
@@ -19,11 +23,15 @@ few c =
     let a = c .before .before .before .before .before .before .before .before .before .before .before .before .before in
     rw (c .usable .ensures) (usable-few (withinLimits (a .args .area .now)) (a .args .list) (c .before .before .before .before .take-apart .result) (c .before .before .before .before .take-apart .ensures .0))
 
-returns : tie.Need-returns
-returns c = let a = c .before .before .before .before in promised (width-none (a .args .width) (a .args .format .now) (listCheck (a .args .area .now) (a .args .list)) (values (a .args .list)) (a .args .buffer .now) (c .if1 .taken))
+-- row 1 is passed
+right : (c : tie.Else1) → WidthRight (c .before .before .before .before .before .args .width)
+right c = width-passed _ (sym (c .before .width-right .ensures) ∙ not-false _ (c .if1 .left))
 
-returns-2 : tie.Need-returns-2
-returns-2 c = let a = c .before .before .before .before .before in promised (width-over (a .args .width) (a .args .format .now) (listCheck (a .args .area .now) (a .args .list)) (values (a .args .list)) (a .args .buffer .now) (omega (arith, c .before .if1 .left)) (c .if2 .taken))
+width-right-requires : tie.Need-width-right-requires
+width-right-requires c κs = search needs
+
+returns : tie.Need-returns
+returns c = let a = c .before .before .before .before .before in promised (width-refuses (a .args .width) (a .args .format .now) (listCheck (a .args .area .now) (a .args .list)) (sym (c .before .width-right .ensures) ∙ not-true _ (c .if1 .taken)))
 
 slice-aggregate-take-apart : tie.Need-slice-aggregate-take-apart
 slice-aggregate-take-apart c = search needs
@@ -59,20 +67,20 @@ slice-aggregate-write-small-3 : tie.Need-slice-aggregate-write-small-3
 slice-aggregate-write-small-3 c = let g : length (c .before .before .before .before .before .before .before .take-apart .last .1 .1 .1 .1 .0) ≡ 64 = search needs in sym (length-take-le _ _ (omega (arith, few (c .before .before .before))))
 
 write-small-requires : tie.Need-write-small-requires
-write-small-requires c κs = let a = c .before .before .before .before .before .before .before .before .before .before .before .before .before .before .before .before .before in let t = c .before .before .before .before .before .before .before .before .take-apart in let g : length (t .last .1 .1 .0) ≡ 64 = search needs in (omega (arith, c .before .before .before .before .before .before .before .before .before .before .before .before .before .if1 .left), omega (arith, c .before .before .before .before .before .before .before .before .before .before .before .before .if2 .left), record { vs = values (a .args .list); listed-if = listed-if (a .args .area .now) (a .args .list) (t .result) (t .ensures .0) (t .last .1 .1 .0) (t .last .1 .1 .1 .0) (t .last .1 .1 .1 .1 .0) g (t .ensures .1) (c .before .before .before .before .usable .ensures) })
+write-small-requires c κs = let a = c .before .before .before .before .before .before .before .before .before .before .before .before .before .before .before .before .before in let t = c .before .before .before .before .before .before .before .before .take-apart in let g : length (t .last .1 .1 .0) ≡ 64 = search needs in (right (c .before .before .before .before .before .before .before .before .before .before .before .before), record { vs = values (a .args .list); listed-if = listed-if (a .args .area .now) (a .args .list) (t .result) (t .ensures .0) (t .last .1 .1 .0) (t .last .1 .1 .1 .0) (t .last .1 .1 .1 .1 .0) g (t .ensures .1) (c .before .before .before .before .usable .ensures) })
 
 same-length : tie.Need-same-length
 same-length c = search needs
 
-returns-3 : tie.Need-returns-3
-returns-3 c = let a = c .before .before .before .before .before .before .before .before .before .before .before .before .before .before .before .before .before .before .before .before in let t = c .before .before .before .before .before .before .before .before .before .before .before .take-apart in let g : length (t .last .1 .1 .0) ≡ 64 = search needs in promised (width-right (a .args .width) (a .args .format .now) (listCheck (a .args .area .now) (a .args .list)) (values (a .args .list)) (a .args .buffer .now) (omega (arith, c .before .before .before .before .before .before .before .before .before .before .before .before .before .before .before .before .if1 .left)) (omega (arith, c .before .before .before .before .before .before .before .before .before .before .before .before .before .before .before .if2 .left)) (t .result) (t .ensures .0) (c .before .before .write-small .ensures .wrote (values (a .args .list)) (listed-if (a .args .area .now) (a .args .list) (t .result) (t .ensures .0) (t .last .1 .1 .0) (t .last .1 .1 .1 .0) (t .last .1 .1 .1 .1 .0) g (t .ensures .1) (c .before .before .before .before .before .before .before .usable .ensures))))
+returns-2 : tie.Need-returns-2
+returns-2 c = let a = c .before .before .before .before .before .before .before .before .before .before .before .before .before .before .before .before .before .before .before .before in let t = c .before .before .before .before .before .before .before .before .before .before .before .take-apart in let g : length (t .last .1 .1 .0) ≡ 64 = search needs in promised (checked-so (a .args .format .now) (t .ensures .0) (c .before .before .write-small .ensures .wrote (values (a .args .list)) (listed-if (a .args .area .now) (a .args .list) (t .result) (t .ensures .0) (t .last .1 .1 .0) (t .last .1 .1 .1 .0) (t .last .1 .1 .1 .1 .0) g (t .ensures .1) (c .before .before .before .before .before .before .before .usable .ensures))))
 
 pub write-spec : {M : Type 1} → statement M
 write-spec =
     tie.close
     (tie.spec
+    width-right-requires
     returns
-    returns-2
     slice-aggregate-take-apart
     slice-aggregate-take-apart-2
     slice-aggregate-take-apart-3
@@ -86,4 +94,4 @@ write-spec =
     slice-aggregate-write-small-3
     write-small-requires
     same-length
-    returns-3)
+    returns-2)
