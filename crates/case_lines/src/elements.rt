@@ -1,7 +1,5 @@
 // The element lines of a case.
-use crate::lines::after;
 use crate::lines::begins;
-use crate::lines::line_end;
 use crate::numbers::least;
 use crate::numbers::number_after;
 use crate::numbers::pair_at;
@@ -11,6 +9,8 @@ use list_elements::Element;
 use list_elements::List;
 use list_elements::Text;
 use list_elements::Value;
+use list_text::lines::line_end;
+use list_text::lines::next_line;
 ghost use Prim.Native.Nat.{_≤_};
 ghost use lib.ListN.{length};
 
@@ -105,11 +105,11 @@ pub fn read_list(text: &[u8], from: usize) -> Listed
     while at < text.len() {
         let end = line_end(text, at);
         if text[at] == b'.' {
-            let next = after(text, end);
+            let next = next_line(text, end);
             return Listed { list, next };
         }
         list = with_line(list, &text[at..end]);
-        at = after(text, end);
+        at = next_line(text, end);
     }
     Listed { list, next: at }
 }

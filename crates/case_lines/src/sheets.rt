@@ -1,8 +1,8 @@
 // The lines of a case that has a sheet.
 use crate::elements::read_list;
-use crate::lines::after;
-use crate::lines::line_end;
 use list_elements::List;
+use list_text::lines::line_end;
+use list_text::lines::next_line;
 ghost use Prim.Native.Nat.{_≤_, _<_};
 ghost use lib.ListN.{length};
 
@@ -38,9 +38,9 @@ pub fn sheet_at(text: &[u8], from: usize) -> Sheet
     ensures { λ r. ⌜ (from < r .next) × (r .next ≤ length (now (text .entry))) ⌝ }
 {
     let head = line_at(text, from);
-    let format = line_at(text, after(text, head.end));
-    let bytes = line_at(text, after(text, format.end));
-    let listed = read_list(text, after(text, bytes.end));
+    let format = line_at(text, next_line(text, head.end));
+    let bytes = line_at(text, next_line(text, format.end));
+    let listed = read_list(text, next_line(text, bytes.end));
     let list = listed.list;
     Sheet {
         head,

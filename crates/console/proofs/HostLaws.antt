@@ -1,6 +1,6 @@
 -- The numbers of refusals are small.
 -- Assumes nothing.
-use Prim.Native.Nat.{ℕ, _≤_}
+use Prim.Native.Nat.{_≤_}
 use native.Mathlib.Omega.{arith}
 use Rattle.number.specs.Limits.{largest}
 use Rattle.format_items.specs.Refusals as format

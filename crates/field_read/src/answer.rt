@@ -6,7 +6,6 @@ ghost use mathlib.Core.Bool.{cond};
 ghost use Prim.Native.Nat.{_≤_};
 ghost use lib.Dec.{eqb};
 ghost use Rattle.number.specs.Limits.{largest};
-ghost use Rattle.number.specs.Magnitude.{withSign};
 ghost use Rattle.field_written.specs.Numeral.{signed};
 
 // The magnitude m, negated after a minus.

@@ -1,6 +1,5 @@
 pub mod Fewest
 pub mod Cases
-pub mod Making
 pub mod Answer
 pub mod Letters
 pub mod Promises

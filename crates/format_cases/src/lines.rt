@@ -1,7 +1,7 @@
 // The cases of a text.
 use crate::answers::show_check;
 use crate::runs::show_run;
-use case_lines::lines::line_end;
+use list_text::lines::line_end;
 
 // One case.
 fn show_line(line: &[u8]) {

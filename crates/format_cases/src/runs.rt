@@ -1,9 +1,9 @@
 // The items met.
 use case_lines::shown::lettered;
-use format_check::ItemsChecked;
-use format_check::items::check_items;
 use format_grammar::LEVELS;
 use format_items::LONGEST_FORMAT;
+use format_load::ItemsChecked;
+use format_load::items::check_items;
 use format_run::unroll::unroll;
 use format_words::FIRST_BASE;
 use format_words::KIND_A;

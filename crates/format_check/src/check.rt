@@ -1,9 +1,9 @@
 // The format check.
 use crate::FormatCheck;
-use crate::ItemsChecked;
-use crate::items::check_items;
 use format_items::FormatRefusal;
 use format_items::LONGEST_FORMAT;
+use format_load::ItemsChecked;
+use format_load::items::check_items;
 ghost use mathlib.Core.Path.{_≡_};
 ghost use Prim.Native.Nat.{_≤_};
 ghost use lib.ListN.{length};

@@ -7,8 +7,8 @@ use native.Mathlib.Nat.{add-sub-cancel}
 use native.Mathlib.Omega.{arith}
 use borrow.Author.Tests.{ne-eqb}
 use lib.ListN.{getD}
-use Rattle.buffer.specs.Characters.{decimalPoint}
-use Rattle.format_grammar.specs.Characters.{letterI, letterF, letterL, letterA, openingBracket, letterX, letterT, slashSign, closingBracket, comma}
+use Rattle.buffer.specs.Characters.{decimalPoint, letterI, letterF, letterL, letterA, letterX, letterT}
+use Rattle.format_grammar.specs.Characters.{openingBracket, slashSign, closingBracket, comma}
 use Rattle.format_items.specs.Items.{Number, Repeat, Field, Items, join}
 use Rattle.format_grammar.specs.Grammar.{RepeatAt, FieldAt, Nonterminal, Derives, Format}
 use Rattle.format_grammar.specs.Reading.{Use, Mode, Open, State, Reading, step, stepWithin, wanted, begun, close, readAt, reading}

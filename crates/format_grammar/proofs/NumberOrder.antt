@@ -7,9 +7,9 @@ use mathlib.Core.List.{List, [], _∷_, _++_, append-nil}
 use Prim.Native.Nat.{ℕ, _+_}
 use borrow.Author.Tests.{eqb-false}
 use lib.Dec.{eqb}
-use Rattle.buffer.specs.Characters.{decimalPoint}
+use Rattle.buffer.specs.Characters.{decimalPoint, letterA, letterF, letterI, letterL, letterT, letterX}
 use Rattle.number.specs.Digits.{isDigit}
-use Rattle.format_grammar.specs.Characters.{quotationMark, apostrophe, openingBracket, closingBracket, comma, slashSign, letterA, letterF, letterI, letterL, letterT, letterX}
+use Rattle.format_grammar.specs.Characters.{quotationMark, apostrophe, openingBracket, closingBracket, comma, slashSign}
 use Rattle.format_items.specs.Items.{Number, Repeat, Field, Items}
 use Rattle.format_grammar.specs.Grammar.{At, NumberAt, RepeatAt, FieldAt, Nonterminal, Derives}
 use Rattle.format_items.specs.Ranges.{Ranged, ranged, repeatNumbers, fieldNumbers, numbers}

@@ -3,7 +3,7 @@
 use mathlib.Core.Path.{_≡_, refl, _∙_, subst}
 use mathlib.Core.Bool.{Bool, true, false, cond}
 use mathlib.Core.List.{List}
-use Prim.Native.Nat.{ℕ, _≤_}
+use Prim.Native.Nat.{ℕ, _<_, _≤_}
 use native.Mathlib.Omega.{arith}
 use borrow.Author.Tests.{lt-ltb, le-ltb, ltb-true, ltb-false}
 use lib.Dec.{ltb}
@@ -81,6 +81,10 @@ pub outcome-short : (s : List ℕ) → length s ≤ longestFormat → outcome s 
 unfolding outcome
 outcome-short s h = rw (le-ltb longestFormat (length s) h)
 
+pub outcome-long : (s : List ℕ) → longestFormat < length s → outcome s ≡ refused Length
+unfolding outcome
+outcome-long s h = rw (lt-ltb longestFormat (length s) h)
+
 outcome-read : (s : List ℕ) (xs : Items) → length s ≤ longestFormat → Format s xs → outcome s ≡ checkRange (firstOutside (numbers xs)) xs
 outcome-read s xs h f = outcome-short s h ∙ rw (complete f)
 
@@ -112,8 +116,7 @@ answers : (s : List ℕ) (w : FormatRefusal) → outcome s ≡ refused w → Ans
 answers s w e = record { number-is = rw e; place-is = rw e }
 
 pub length-refused : LengthRefused
-unfolding outcome
-length-refused s p = (λ a. go (answered s 2 p a), λ h. rw (h .place-is) (answers s Length (rw (lt-ltb longestFormat (length s) (h .long)))))
+length-refused s p = (λ a. go (answered s 2 p a), λ h. rw (h .place-is) (answers s Length (outcome-long s (h .long))))
   where
     go : AnsweredBy s 2 p → TooLong s p
     go (AnsweredBy.too-long h) = h

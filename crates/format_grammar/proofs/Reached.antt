@@ -4,9 +4,9 @@ use mathlib.Core.Path.{_≡_}
 use mathlib.Core.List.{List}
 use Prim.Native.Nat.{ℕ, _+_, _≤_}
 use lib.ListN.{length}
-use Rattle.buffer.specs.Characters.{decimalPoint, Printable}
+use Rattle.buffer.specs.Characters.{decimalPoint, Printable, letterA, letterF, letterI, letterL, letterT}
 use Rattle.number.specs.Digits.{Digits, value}
-use Rattle.format_grammar.specs.Characters.{openingBracket, closingBracket, comma, letterA, letterF, letterI, letterL, letterT}
+use Rattle.format_grammar.specs.Characters.{openingBracket, closingBracket, comma}
 use Rattle.format_items.specs.Items.{Number, Repeat, Items}
 use Rattle.format_grammar.specs.Grammar.{At, part, NumberAt, RepeatAt, Mark, doubled, Nonterminal, Derives}
 use Rattle.format_grammar.specs.Reading.{Use, Mode, Open, State}

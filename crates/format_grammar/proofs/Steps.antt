@@ -8,10 +8,10 @@ use native.Mathlib.Omega.{arith}
 use borrow.Author.Tests.{eqb-true, eqb-false, ltb-true}
 use lib.Dec.{ltb, leb, eqb}
 use lib.ListN.{length, getD}
-use Rattle.buffer.specs.Characters.{decimalPoint}
+use Rattle.buffer.specs.Characters.{decimalPoint, letterI, letterF, letterL, letterA, letterX, letterT}
 use Rattle.number.specs.Digits.{isDigit}
 use Rattle.number.proofs.DigitLaws.{value-none, digit-bounds}
-use Rattle.format_grammar.specs.Characters.{letterI, letterF, letterL, letterA, openingBracket, letterX, letterT, slashSign, apostrophe, quotationMark, closingBracket, comma}
+use Rattle.format_grammar.specs.Characters.{openingBracket, slashSign, apostrophe, quotationMark, closingBracket, comma}
 use Rattle.format_items.specs.Items.{number, Repeat, Items, join}
 use Rattle.format_grammar.specs.Grammar.{At, NumberAt, RepeatAt, FieldAt, Mark, doubled, Nonterminal, Derives}
 use Rattle.format_grammar.specs.Reading.{Use, Mode, Open, State, step, stepWithin, written, separated, onlyAbsent, skipped, opened, begun, pointed, used, close, isEmpty}

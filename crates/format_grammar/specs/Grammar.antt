@@ -16,9 +16,9 @@ use mathlib.Core.List.{List, [], _∷_, _++_}
 use Prim.Native.Nat.{ℕ, _+_, _-_, _<_, _≤_}
 use lib.Dec.{eqb}
 use lib.ListN.{length, getD, take, drop}
-use Rattle.buffer.specs.Characters.{decimalPoint, Printable}
+use Rattle.buffer.specs.Characters.{decimalPoint, Printable, letterA, letterF, letterI, letterL, letterT, letterX}
 use Rattle.number.specs.Digits.{Digits, value}
-use Rattle.format_grammar.specs.Characters.{quotationMark, apostrophe, openingBracket, closingBracket, comma, slashSign, letterA, letterF, letterI, letterL, letterT, letterX}
+use Rattle.format_grammar.specs.Characters.{quotationMark, apostrophe, openingBracket, closingBracket, comma, slashSign}
 use Rattle.format_items.specs.Items.{Number, number, Repeat, Field, Items, join}
 
 -- the byte c stands at offset a

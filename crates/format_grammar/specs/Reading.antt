@@ -7,9 +7,9 @@ use mathlib.Core.List.{List, [], _∷_, _++_}
 use Prim.Native.Nat.{ℕ, _+_, _-_, _*_}
 use lib.Dec.{ltb, eqb}
 use lib.ListN.{drop}
-use Rattle.buffer.specs.Characters.{decimalPoint, digitZero, isPrintable}
+use Rattle.buffer.specs.Characters.{decimalPoint, digitZero, isPrintable, letterA, letterF, letterI, letterL, letterT, letterX}
 use Rattle.number.specs.Digits.{isDigit}
-use Rattle.format_grammar.specs.Characters.{quotationMark, apostrophe, openingBracket, closingBracket, comma, slashSign, letterA, letterF, letterI, letterL, letterT, letterX}
+use Rattle.format_grammar.specs.Characters.{quotationMark, apostrophe, openingBracket, closingBracket, comma, slashSign}
 use Rattle.format_grammar.specs.Grammar.{levels}
 use Rattle.format_items.specs.Items.{Number, number, Repeat, absent, given, I, F, L, A, Aw, Items, join}
 

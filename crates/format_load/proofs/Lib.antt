@@ -1,1 +1,2 @@
+pub mod ItemRows
 pub mod LoadLaws

@@ -11,7 +11,7 @@ use Rattle.format_items.proofs.MetLaws.{met-is-size, return-index-is}
 use Rattle.format_grammar.proofs.Promises.{accepts-exactly, met-in-range}
 use Rattle.format_words.specs.Words.{metOf, RunWords}
 use Rattle.format_run.specs.Runs.{Ran}
-use Rattle.format_check.specs.Checked.{ItemsHeld}
+use Rattle.format_load.specs.ItemsChecked.{ItemsHeld}
 use Rattle.format_load.specs.Loaded.{RunHeld}
 
 words-more : (c d : ℕ) (ws : List ℕ) → c ≤ d → RunWords c ws → RunWords d ws

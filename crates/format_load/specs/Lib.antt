@@ -1,1 +1,2 @@
+pub mod ItemsChecked
 pub mod Loaded

@@ -1,7 +1,7 @@
 // A format's text, loaded.
+use crate::ItemsChecked;
 use crate::Loading;
-use format_check::ItemsChecked;
-use format_check::items::check_items;
+use crate::items::check_items;
 use format_grammar::LEVELS;
 use format_items::FormatRefusal;
 use format_items::LONGEST_FORMAT;

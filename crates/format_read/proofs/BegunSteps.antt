@@ -10,7 +10,7 @@ use Rattle.format_items.specs.Items.{number, Repeat, times, Items, join}
 use Rattle.format_items.specs.Ranges.{ranged, repeatNumbers, numbers}
 use Rattle.format_items.specs.Met.{Met}
 use Rattle.format_grammar.specs.Reading.{Use, Mode, Open, State, wanted, written, begun}
-use Rattle.format_words.specs.Words.{metOf}
+use Rattle.format_words.specs.Words.{metOf, kindX}
 use Rattle.format_words.specs.Held.{First}
 use Rattle.format_words.proofs.WordLaws.{met-X, met-slash}
 use Rattle.format_read.specs.Steps.{NumberFound, outsideAfter, ItemRead, Stuck, itemRead, ended, NoBracketOrMark, NoFieldLetter}
@@ -81,7 +81,7 @@ X-read {s} {from} {v} {at} f h z g o o₁ out =
       late = ranged n 1 255 ∷ [];
       first = First.X;
       runs = number-on f Use.start (Repeat.given n) e h (λ l xs q. State.within Mode.after l (join xs (Items.X n Items.none)) q) (λ l xs q. rw g) (λ l xs q a b. refl);
-      means = λ t. subst (λ (w : ℕ). metOf t w ≡ Met.X v) (plain-word 5 v) (met-X t v (omega (arith, f .small)));
+      means = λ t. subst (λ (w : ℕ). metOf t w ≡ Met.X v) (plain-word kindX v) (met-X t v (omega (arith, f .small)));
       kind = omega arith;
       numbers-are = refl;
       outside-is = out ∙ ap (λ (k : Repeat). outsideAfter o (repeatNumbers k)) e;

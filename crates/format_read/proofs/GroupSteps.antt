@@ -12,7 +12,7 @@ use Rattle.format_items.specs.Ranges.{repeatNumbers, numbers}
 use Rattle.format_grammar.specs.Reading.{Mode, Open, State, step, stepWithin, wanted, close, readAt}
 use Rattle.format_items.proofs.ItemLaws.{join-assoc, join-right, numbers-join}
 use Rattle.format_grammar.proofs.ReadLaws.{read-step, read-dead, read-end, close-live}
-use Rattle.format_words.specs.Words.{word, entry}
+use Rattle.format_words.specs.Words.{word, entry, kindGroup}
 use Rattle.format_words.specs.Held.{GroupEntry, Holds}
 use Rattle.format_words.proofs.WordLaws.{kind-word, first-word, word-entry, repeat-entry}
 use Rattle.format_words.proofs.HeldLaws.{holds-join, holds-kept}
@@ -22,14 +22,14 @@ use Rattle.format_read.proofs.SingleSteps.{outside-append, outside-none
 
 -- ---- a group
 
-group-entry : (n end r : ℕ) → n < end → end ≤ 1024 → r < 1000 → GroupEntry (entry (word 9 (end - (n + 1)) 0) r) r n end
+group-entry : (n end r : ℕ) → n < end → end ≤ 1024 → r < 1000 → GroupEntry (entry (word kindGroup (end - (n + 1)) 0) r) r n end
 group-entry n end r h g few =
     let x = end - (n + 1) in
-    let e = word-entry (word 9 x 0) r (omega arith) in
+    let e = word-entry (word kindGroup x 0) r (omega arith) in
     record {
-      kind = rw e (kind-word 9 x 0 (omega arith));
-      inside = rw e (omega (arith, first-word 9 x 0 (omega arith) (omega arith)));
-      repeats = repeat-entry (word 9 x 0) r (omega arith);
+      kind = rw e (kind-word kindGroup x 0 (omega arith));
+      inside = rw e (omega (arith, first-word kindGroup x 0 (omega arith) (omega arith)));
+      repeats = repeat-entry (word kindGroup x 0) r (omega arith);
     }
 
 module _ {s : List ℕ} {l r : ℕ} {p inside p' : Position} {a t b u d v : List ℕ} (room : Room s p a) (o : Opened s l p inside r a t b u) (k : Took s (l - 1) (wanted (inside .at)) close inside b u p' d v)
@@ -38,11 +38,11 @@ module _ {s : List ℕ} {l r : ℕ} {p inside p' : Position} {a t b u d v : List
   group-fits =
       (omega (arith, k .more-entries, o .entries-are), omega (arith, k .few-entries, k .high, room .short), omega (arith, k .few-entries, k .high, room .entries-fit), o .few)
 
-  pub took-group : (e : List ℕ) → e ≡ set d (p .entries) (entry (word 9 (p' .entries - (p .entries + 1)) 0) r) → Took s l (wanted (p .at)) (State.within Mode.after) p a t p' e v
+  pub took-group : (e : List ℕ) → e ≡ set d (p .entries) (entry (word kindGroup (p' .entries - (p .entries + 1)) 0) r) → Took s l (wanted (p .at)) (State.within Mode.after) p a t p' e v
   unfolding join numbers
   took-group e g =
       let n = p .entries in
-      let w = entry (word 9 (p' .entries - (n + 1)) 0) r in
+      let w = entry (word kindGroup (p' .entries - (n + 1)) 0) r in
       let fits = group-fits in
       let back : l - 1 + 1 ≡ l = omega (arith, o .deep) in
       let room-d : n < length d = omega (arith, fits .0, fits .2) in

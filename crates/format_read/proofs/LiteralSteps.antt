@@ -6,9 +6,10 @@ use mathlib.Core.List.{List, [], _∷_, _++_, append-assoc, append-nil}
 use Prim.Native.Nat.{ℕ, _+_, _<_, _≤_}
 use native.Mathlib.Numerals.{add-one}
 use native.Mathlib.Omega.{arith}
-use borrow.Author.Tests.{eq-eqb, ne-eqb, le-leb, lt-leb}
+use borrow.Author.Tests.{eq-eqb, ne-eqb}
 use lib.ListN.{length, getD, take, set, length-append, length-set}
 use lib.Seq.{take-suc-set}
+use Rattle.buffer.specs.Characters.{isPrintable}
 use Rattle.format_items.specs.Items.{Items, join}
 use Rattle.format_grammar.specs.Reading.{Mode, Open, State, step, stepWithin, isEmpty, readAt}
 use Rattle.format_grammar.proofs.ReadLaws.{read-step, read-dead, read-end, read-same}
@@ -38,13 +39,13 @@ module _ {s : List ℕ} {at m : ℕ} {t : List ℕ} {c : ℕ} {u : List ℕ} {p 
   count-more b k = omega (arith, f .end-is, length-append (f .characters) (b ∷ []))
 
   module _ (h : p < length s) where
-    pub literal-plain : (getD s p 0 ≡ m → ⊥) → 32 ≤ getD s p 0 → getD s p 0 ≤ 126 → n < length u → LiteralSoFar s at m t c (set u n (getD s p 0)) (p + 1) (n + 1)
+    pub literal-plain : (getD s p 0 ≡ m → ⊥) → isPrintable (getD s p 0) ≡ true → n < length u → LiteralSoFar s at m t c (set u n (getD s p 0)) (p + 1) (n + 1)
     unfolding step stepWithin
-    literal-plain d lo hi r =
+    literal-plain d printed r =
         let b = getD s p 0 in
         record {
           characters = f .characters ++ b ∷ [];
-          runs = λ l xs q. f .runs l xs q ∙ read-step s p _ (State.within (Mode.inside m (f .characters ++ b ∷ [])) l xs q) h (simp (ne-eqb b m d, le-leb 32 b lo, le-leb b 126 hi)) (λ x y. refl);
+          runs = λ l xs q. f .runs l xs q ∙ read-step s p _ (State.within (Mode.inside m (f .characters ++ b ∷ [])) l xs q) h (simp (ne-eqb b m d, printed)) (λ x y. refl);
           are = added t u c n b (f .characters) r (f .are);
           end-is = count-more b 0;
           long = length-set u n b ∙ f .long;
@@ -53,13 +54,9 @@ module _ {s : List ℕ} {at m : ℕ} {t : List ℕ} {c : ℕ} {u : List ℕ} {p 
           fewer = omega (arith, f .fewer);
         }
 
-    pub literal-low : (getD s p 0 ≡ m → ⊥) → getD s p 0 < 32 → Stuck s at (Mode.inside m []) p
+    pub literal-odd : (getD s p 0 ≡ m → ⊥) → isPrintable (getD s p 0) ≡ false → Stuck s at (Mode.inside m []) p
     unfolding step stepWithin
-    literal-low d lo l xs q = f .runs l xs q ∙ read-dead s p (State.within (Mode.inside m (f .characters)) l xs q) h (simp (ne-eqb (getD s p 0) m d, lt-leb 32 (getD s p 0) lo))
-
-    pub literal-high : (getD s p 0 ≡ m → ⊥) → 32 ≤ getD s p 0 → 126 < getD s p 0 → Stuck s at (Mode.inside m []) p
-    unfolding step stepWithin
-    literal-high d lo hi l xs q = f .runs l xs q ∙ read-dead s p (State.within (Mode.inside m (f .characters)) l xs q) h (simp (ne-eqb (getD s p 0) m d, le-leb 32 (getD s p 0) lo, lt-leb (getD s p 0) 126 hi))
+    literal-odd d odd l xs q = f .runs l xs q ∙ read-dead s p (State.within (Mode.inside m (f .characters)) l xs q) h (simp (ne-eqb (getD s p 0) m d, odd))
 
     -- a mark
     module _ (e : getD s p 0 ≡ m) where

@@ -15,7 +15,7 @@ use Rattle.format_items.specs.Met.{Met, fieldValues}
 use Rattle.format_grammar.specs.Reading.{Use, Mode, Open, State, Reading, pick, step, stepWithin, unlessDead, written, used, separated, readAt}
 use Rattle.format_grammar.proofs.NumberLaws.{written-absent, written-given}
 use Rattle.format_grammar.proofs.ReadLaws.{read-step, read-end, read-same, read-stuck, step-used}
-use Rattle.format_words.specs.Words.{word, kindOf, metOf}
+use Rattle.format_words.specs.Words.{word, kindOf, metOf, kindBase, firstBase, kindI, kindF, kindL, kindAw, kindT, kindLiteral}
 use Rattle.format_words.specs.Held.{First}
 use Rattle.format_words.proofs.WordLaws.{met-I, met-F, met-L, met-A, met-Aw, met-T}
 use Rattle.format_read.specs.Steps.{NumberFound, keepFirst, outsideAfter, ItemRead, Stuck, Ends}
@@ -74,10 +74,10 @@ module _ {s : List ℕ} {from v at : ℕ} (f : NumberFound s from v at) (u : Use
 
 -- ---- words of items
 
-kind-of : (v k : ℕ) → k < 16 → kindOf (v * 16 + k) ≡ k
+kind-of : (v k : ℕ) → k < kindBase → kindOf (v * kindBase + k) ≡ k
 kind-of v k h = omega arith
 
-pub plain-word : (k v : ℕ) → word k v 0 ≡ v * 16 + k
+pub plain-word : (k v : ℕ) → word k v 0 ≡ v * kindBase + k
 plain-word k v = simp zero-add
 
 -- ---- I, L and T: one number
@@ -86,8 +86,8 @@ module _ {s : List ℕ} {at v next : ℕ} (f : NumberFound s at v next) {u : Use
   pub one-missing : next ≡ at → Stuck s at (Mode.digits u at 0) at
   one-missing z = subst (λ (p : ℕ). Stuck s at (Mode.digits u at 0) p) z (number-stuck f u Repeat.absent (written-absent at next v z) (λ l xs q. e .needed next l xs q (getD s next 0)))
 
-  pub one-read : (next ≡ at → ⊥) → kind < 8 → (r : ℕ) → times k ≡ r → r < 1000 → (o o' : ℕ) → o' ≡ keepFirst o (ranged (number at v) 1 high)
-      → ItemRead s at (Mode.digits u at 0) (repeatNumbers k) at o (v * 16 + kind) r next o'
+  pub one-read : (next ≡ at → ⊥) → kind < kindLiteral → (r : ℕ) → times k ≡ r → r < 1000 → (o o' : ℕ) → o' ≡ keepFirst o (ranged (number at v) 1 high)
+      → ItemRead s at (Mode.digits u at 0) (repeatNumbers k) at o (v * kindBase + kind) r next o'
   one-read z low r rep few o o' out =
       let n = number at v in
       record {
@@ -123,13 +123,13 @@ ends-field u k kind f needed enough means ns =
       numbers-are = λ n. append-nil (repeatNumbers k ++ fieldNumbers (f n)) ∙ ap (λ (l : List Ranged). repeatNumbers k ++ l) (ns n);
     }
 
-pub ends-I : (k : Repeat) → Ends (Use.widthI k) k 0 64
-ends-I k = ends-field (Use.widthI k) k 0 Field.I (λ at l xs q b. refl) (λ n at l xs q b. refl) (λ t n. met-I t (valueOf n)) (λ n. refl)
+pub ends-I : (k : Repeat) → Ends (Use.widthI k) k kindI 64
+ends-I k = ends-field (Use.widthI k) k kindI Field.I (λ at l xs q b. refl) (λ n at l xs q b. refl) (λ t n. met-I t (valueOf n)) (λ n. refl)
 
-pub ends-L : (k : Repeat) → Ends (Use.widthL k) k 2 64
-ends-L k = ends-field (Use.widthL k) k 2 Field.L (λ at l xs q b. refl) (λ n at l xs q b. refl) (λ t n. met-L t (valueOf n)) (λ n. refl)
+pub ends-L : (k : Repeat) → Ends (Use.widthL k) k kindL 64
+ends-L k = ends-field (Use.widthL k) k kindL Field.L (λ at l xs q b. refl) (λ n at l xs q b. refl) (λ t n. met-L t (valueOf n)) (λ n. refl)
 
-pub ends-T : Ends Use.column Repeat.absent 6 255
+pub ends-T : Ends Use.column Repeat.absent kindT 255
 unfolding numbers
 ends-T =
     record {
@@ -164,7 +164,7 @@ module _ {s : List ℕ} {at v next : ℕ} (f : NumberFound s at v next) (k : Rep
         high = f .high;
       }
 
-  pub text-wide : (next ≡ at → ⊥) → (o' : ℕ) → o' ≡ keepFirst o (ranged (number at v) 1 64) → ItemRead s at (Mode.digits (Use.widthA k) at 0) (repeatNumbers k) at o (v * 16 + 4) r next o'
+  pub text-wide : (next ≡ at → ⊥) → (o' : ℕ) → o' ≡ keepFirst o (ranged (number at v) 1 64) → ItemRead s at (Mode.digits (Use.widthA k) at 0) (repeatNumbers k) at o (v * kindBase + kindAw) r next o'
   unfolding numbers
   text-wide z o' out =
       let n = number at v in
@@ -174,7 +174,7 @@ module _ {s : List ℕ} {at v next : ℕ} (f : NumberFound s at v next) (k : Rep
         late = ranged n 1 64 ∷ [];
         first = subst (λ (m : ℕ). First (Items.field k (Field.Aw n) Items.none) m (Met.field (Field.Aw v)) Items.none) rep First.field;
         runs = number-ends f (Use.widthA k) (Repeat.given n) (written-given at next v z) (Items.field k (Field.Aw n) Items.none) (λ l xs q b. refl);
-        means = λ t. subst (λ (w : ℕ). metOf t w ≡ Met.field (Field.Aw v)) (plain-word 4 v) (met-Aw t v (omega (arith, f .small)));
+        means = λ t. subst (λ (w : ℕ). metOf t w ≡ Met.field (Field.Aw v)) (plain-word kindAw v) (met-Aw t v (omega (arith, f .small)));
         kind = omega arith;
         numbers-are = append-nil (repeatNumbers k ++ ranged n 1 64 ∷ []);
         outside-is = out ∙ sym (outside-one o (ranged n 1 64));
@@ -211,7 +211,7 @@ module _ {s : List ℕ} {at w point : ℕ} (f : NumberFound s at w point) (k : R
             (number-stuck g (Use.places k (number at w)) Repeat.absent (written-absent (point + 1) next d y) (λ l xs q. refl)) l xs q
 
         pub decimal-read : (next ≡ point + 1 → ⊥) → (r : ℕ) → times k ≡ r → r < 1000 → (o o₁ o₂ : ℕ) → o₁ ≡ keepFirst o (ranged (number at w) 1 64) → o₂ ≡ keepFirst o₁ (ranged (number (point + 1) d) 0 9)
-            → ItemRead s at (Mode.digits (Use.widthF k) at 0) (repeatNumbers k) at o ((d * 1024 + w) * 16 + 1) r next o₂
+            → ItemRead s at (Mode.digits (Use.widthF k) at 0) (repeatNumbers k) at o ((d * firstBase + w) * kindBase + kindF) r next o₂
         unfolding numbers outsideAfter
         decimal-read y r rep few o o₁ o₂ x₁ x₂ =
             let m = number at w in

@@ -15,7 +15,7 @@ use Rattle.format_grammar.specs.Reading.{Mode, Open, State, Reading, wanted, re
 use Rattle.format_grammar.proofs.Cases.{is-mark}
 use Rattle.format_grammar.proofs.LiteralLaws.{step-open}
 use Rattle.format_grammar.proofs.ReadLaws.{read-step}
-use Rattle.format_words.specs.Words.{word, kindOf, metOf, reach, entry}
+use Rattle.format_words.specs.Words.{word, kindOf, metOf, reach, entry, kindGroup, kindLiteral}
 use Rattle.format_words.specs.Held.{First, Single, Holds}
 use Rattle.format_words.proofs.WordLaws.{kind-word, word-entry, repeat-entry, met-literal, reach-literal, reach-other}
 use Rattle.format_words.proofs.HeldLaws.{drop-take}
@@ -24,7 +24,7 @@ use Rattle.format_read.specs.declared.Position.{Position}
 
 -- ---- one entry
 
-single-entry : (t : List ℕ) (c w r : ℕ) (k : Met) → kindOf w < 9 → metOf t w ≡ k → r < 1024 → reach w ≤ c → Single t c (entry w r) r k
+single-entry : (t : List ℕ) (c w r : ℕ) (k : Met) → kindOf w < kindGroup → metOf t w ≡ k → r < 1024 → reach w ≤ c → Single t c (entry w r) r k
 single-entry t c w r k low is few far =
     let e = word-entry w r few in
     record { kind = rw e low; is = rw e is; repeats = repeat-entry w r few; reaches = rw e far }
@@ -75,20 +75,20 @@ chars-before t u c end cs h e f =
 
 module _ {s : List ℕ} {p : Position} {a t u : List ℕ} {m next end : ℕ} (room : Room s p a) (fits : length s ≤ length t) (f : LiteralFound s (p .at + 1) m t (p .chars) u next end)
     (h : p .at < length s) (e : getD s (p .at) 0 ≡ m) (k : (eqb m 39 || eqb m 34) ≡ true) where
-  pub took-literal : (l : ℕ) (b : List ℕ) → b ≡ set a (p .entries) (entry (word 8 (p .chars) (end - p .chars)) 1)
+  pub took-literal : (l : ℕ) (b : List ℕ) → b ≡ set a (p .entries) (entry (word kindLiteral (p .chars) (end - p .chars)) 1)
       → Took s l (wanted (p .at)) (State.within Mode.after) p a t (record { at = next; entries = p .entries + 1; chars = end; outside = p .outside }) b u
   unfolding numbers outsideAfter
   took-literal l b g =
       let c = p .chars in
       let low : c < 1024 = omega (arith, room .few-chars, room .short) in
       let small : c ≤ length t = omega (arith, room .few-chars) in
-      let w = word 8 c (end - c) in
+      let w = word kindLiteral c (end - c) in
       let far : reach w ≤ end = omega (arith, reach-literal c (end - c) low, f .end-is) in
       record {
         items = Items.literal (f .characters) Items.none;
         runs = λ xs q. literal-begun s (p .at) m h e k l xs q ∙ f .runs l xs q;
         holds = one-held a (p .entries) w First.literal (omega (arith, room .few-entries, room .entries-fit)) g
-            (single-entry u end w 1 (Met.literal (f .characters)) (omega (arith, kind-word 8 c (end - c) (omega arith)))
+            (single-entry u end w 1 (Met.literal (f .characters)) (omega (arith, kind-word kindLiteral c (end - c) (omega arith)))
             (met-literal u c (end - c) low ∙ ap Met.literal (text-at t u c end (f .characters) small (f .end-is) (f .are))) (omega arith) far);
         entries-kept = ap (take (p .entries)) g ∙ take-set-le (p .entries) a (p .entries) (entry w 1) (omega arith);
         chars-kept = chars-before t u c end (f .characters) small (f .end-is) (f .are);

@@ -7,12 +7,13 @@ use Prim.Native.Nat.{ℕ, _+_, _-_, _<_, _≤_}
 use lib.Dec.{ltb, eqb}
 use lib.ListN.{length, getD, take}
 use Rattle.number.specs.Digits.{isDigit}
-use Rattle.format_grammar.specs.Characters.{openingBracket, apostrophe, quotationMark, letterI, letterF, letterL, letterA}
+use Rattle.format_grammar.specs.Characters.{openingBracket, apostrophe, quotationMark}
+use Rattle.buffer.specs.Characters.{letterI, letterF, letterL, letterA}
 use Rattle.format_items.specs.Items.{Number, valueOf, Repeat, times, Items, join}
 use Rattle.format_items.specs.Ranges.{Ranged, ranged, outside, place, repeatNumbers, numbers}
 use Rattle.format_items.specs.Met.{Met}
 use Rattle.format_grammar.specs.Reading.{Use, Mode, Open, State, Reading, wanted, separated, used, readAt}
-use Rattle.format_words.specs.Words.{word, wordBound, kindOf, metOf}
+use Rattle.format_words.specs.Words.{word, wordBound, kindOf, metOf, kindLiteral}
 use Rattle.format_words.specs.Held.{First, Holds}
 use Rattle.format_read.specs.declared.Position.{Position}
 use Rattle.format_read.specs.declared.Single.{Single}
@@ -53,7 +54,7 @@ pub record ItemRead (s : List ℕ) (a : ℕ) (m : Mode) (ns : List Ranged) (leas
   pub first : First item r met Items.none
   pub runs : (l : ℕ) (xs : Items) (q : Open) → readAt s a (State.within m l xs q) ≡ readAt s next (State.within Mode.after l (join xs item) q)
   pub means : (t : List ℕ) → metOf t w ≡ met
-  pub kind : kindOf w < 8
+  pub kind : kindOf w < kindLiteral
   pub numbers-are : numbers item ≡ ns ++ late
   pub outside-is : o' ≡ outsideAfter o late
   pub low-word : w < wordBound

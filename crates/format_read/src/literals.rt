@@ -1,6 +1,6 @@
 // Literals.
 use crate::Literal;
-ghost use mathlib.Core.Path.{_≡_};
+use buffer::characters::is_printable;
 ghost use Prim.Native.Nat.{_≤_};
 ghost use lib.ListN.{length};
 ghost use Rattle.format_read.specs.Steps.{literalFound};
@@ -31,10 +31,7 @@ pub fn read_literal(text: &[u8], at: usize, m: u8, chars: &mut [u8], c: usize) -
             n += 1;
             p += 2;
         } else {
-            if b < 32 {
-                return Literal::Wrong { place: p };
-            }
-            if 126 < b {
+            if !is_printable(b) {
                 return Literal::Wrong { place: p };
             }
             chars[n] = b;

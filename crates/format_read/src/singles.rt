@@ -17,16 +17,17 @@ use format_words::KIND_T;
 use format_words::KIND_X;
 ghost use mathlib.Core.Path.{_≡_};
 ghost use mathlib.Core.List.{[]};
-ghost use Prim.Native.Nat.{ℕ, _+_, _<_, _≤_};
+ghost use Prim.Native.Nat.{_+_, _<_, _≤_};
 ghost use lib.ListN.{length, getD};
 ghost use Rattle.format_items.specs.Items.{Repeat, times};
 ghost use Rattle.format_items.specs.Ranges.{repeatNumbers};
 ghost use Rattle.format_grammar.specs.Reading.{Use, written, wanted};
+ghost use Rattle.format_words.specs.Words.{kindLiteral};
 ghost use Rattle.format_read.specs.Steps.{NumberFound, Ends, ended, itemRead, NoBracketOrMark, NoFieldLetter, outsideAfter};
 
 // What I, L and T go on with: one number, from 1 to `high`.
 fn read_one(text: &[u8], at: usize, kind: u64, high: u64, repeat: u64, outside: usize) -> Single
-    requires { ⌜ (at ≤ length (now text)) × (length (now text) ≤ 1024) × (kind < 8) × (repeat < 1000) ⌝ }
+    requires { ⌜ (at ≤ length (now text)) × (length (now text) ≤ 1024) × (kind < kindLiteral) × (repeat < 1000) ⌝ }
     ensures { λ r. ⌜ ((u : Use) (k : Repeat) → times k ≡ repeat → Ends u k kind high → ended (now (text .entry)) at u k outside r) ⌝ }
 {
     let m = read_number(text, at);

@@ -9,7 +9,7 @@ use native.Mathlib.Omega.{arith}
 use lib.ListN.{getD}
 use Rattle.format_items.specs.Items.{Items}
 use Rattle.format_items.specs.Size.{size}
-use Rattle.format_words.specs.Words.{kindOf, wordOf, repeatOf}
+use Rattle.format_words.specs.Words.{kindOf, wordOf, repeatOf, kindGroup}
 use Rattle.format_words.specs.Held.{Holds, Held}
 use Rattle.format_run.specs.Sizes.{capped}
 use Rattle.format_run.proofs.FirstLaws.{size-group, first-adds}
@@ -60,7 +60,7 @@ module _ {a : List ℕ} {l from to total i : ℕ} (w : Added a l from to total i
       omega (arith, w .low, g .sum)
 
   module _ (b : i < to) where
-    pub added-group : (inside sum : ℕ) → kindOf (wordOf (getD a i 0)) ≡ 9
+    pub added-group : (inside sum : ℕ) → kindOf (wordOf (getD a i 0)) ≡ kindGroup
         → ((t : List ℕ) (c : ℕ) (ys : Items) → Holds a t c (l - 1) (i + 1) ys (endOf a i) → inside ≡ capped (size ys))
         → sum ≡ capped (total + repeatOf (getD a i 0) * inside) → Added a l from to sum (endOf a i)
     added-group inside sum e call s = record { low = omega arith; all = λ t c xs h. step t c xs (w .all t c xs h) }
@@ -74,7 +74,7 @@ module _ {a : List ℕ} {l from to total i : ℕ} (w : Added a l from to total i
             s ∙ rw (call t c (v .inside) (v .one)) (capped-times (repeatOf (getD a i 0)) (size (v .inside)) total) in
             record { zs = v .next; holds = v .two; sum = omega (arith, g .sum) }
 
-    pub added-other : (sum : ℕ) → (kindOf (wordOf (getD a i 0)) ≡ 9 → ⊥)
+    pub added-other : (sum : ℕ) → (kindOf (wordOf (getD a i 0)) ≡ kindGroup → ⊥)
         → sum ≡ capped (total + repeatOf (getD a i 0)) → Added a l from to sum (i + 1)
     added-other sum e s = record { low = omega arith; all = λ t c xs h. step t c xs (w .all t c xs h) }
       where

@@ -10,7 +10,7 @@ use Rattle.format_items.specs.Items.{times, Items}
 use Rattle.format_items.specs.Ranges.{numbers, AllWithin}
 use Rattle.format_items.specs.Size.{size}
 use Rattle.format_items.specs.Met.{Met, repeat, met, returnIndex}
-use Rattle.format_words.specs.Words.{kindOf, wordOf, repeatOf}
+use Rattle.format_words.specs.Words.{kindOf, wordOf, repeatOf, kindGroup}
 use Rattle.format_words.specs.Held.{Holds}
 use Rattle.format_run.specs.Runs.{Repeatable, Repeated, Fits, Ran}
 use Rattle.format_items.proofs.MetLaws.{met-is-size, length-repeat}
@@ -130,7 +130,7 @@ module _ {a : List ℕ} {l from to : ℕ} {run₀ : List ℕ} {n : ℕ} {run : L
       sym (g .final ∙ ap (λ z. finalBack back e z) (none-left (g .holds) b) ∙ final-none back e)
 
   module _ (b : i < to) where
-    pub unrolling-group : {out last : List ℕ} {m end : ℕ} → kindOf (wordOf (getD a i 0)) ≡ 9 → e ≤ length run
+    pub unrolling-group : {out last : List ℕ} {m end : ℕ} → kindOf (wordOf (getD a i 0)) ≡ kindGroup → e ≤ length run
         → ((t : List ℕ) (c : ℕ) (ys : Items) → Holds a t c (l - 1) (i + 1) ys (endOf a i) → Ran t c run e (met ys) out m)
         → Repeated out e m (repeatOf (getD a i 0)) last end → length out ≡ length run → length last ≡ length out
         → Unrolling a l from to run₀ n last end e (endOf a i)
@@ -158,7 +158,7 @@ module _ {a : List ℕ} {l from to : ℕ} {run₀ : List ℕ} {n : ℕ} {run : L
                   ∙ final-group (v .r) (v .inside) (v .next) back e end s;
             }
 
-    pub unrolling-other : {last : List ℕ} {end : ℕ} → (kindOf (wordOf (getD a i 0)) ≡ 9 → ⊥) → e < length run
+    pub unrolling-other : {last : List ℕ} {end : ℕ} → (kindOf (wordOf (getD a i 0)) ≡ kindGroup → ⊥) → e < length run
         → Repeated (set run e (wordOf (getD a i 0))) e (e + 1) (repeatOf (getD a i 0)) last end → length last ≡ length (set run e (wordOf (getD a i 0)))
         → Unrolling a l from to run₀ n last end back (i + 1)
     unrolling-other {last} {end} kind low p k =

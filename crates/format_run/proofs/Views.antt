@@ -7,7 +7,7 @@ use native.Mathlib.Omega.{arith}
 use lib.ListN.{length, getD}
 use Rattle.format_items.specs.Items.{Repeat, times, Items}
 use Rattle.format_items.specs.Met.{Met}
-use Rattle.format_words.specs.Words.{kindOf, firstOf, wordOf, repeatOf, metOf, RunWord}
+use Rattle.format_words.specs.Words.{kindOf, firstOf, wordOf, repeatOf, metOf, RunWord, kindGroup}
 use Rattle.format_words.specs.Held.{First, Holds}
 use Rattle.format_words.proofs.HeldLaws.{holds-le}
 
@@ -32,7 +32,7 @@ module _ {a t : List ℕ} {c : ℕ} where
   level-less {l} h = let e : l + 1 - 1 ≡ l = omega arith in rw e h
 
   pub as-group : {l n m : ℕ} {xs : Items}
-      → Holds a t c l n xs m → n < m → kindOf (wordOf (getD a n 0)) ≡ 9 → Group a t c l n xs m
+      → Holds a t c l n xs m → n < m → kindOf (wordOf (getD a n 0)) ≡ kindGroup → Group a t c l n xs m
   as-group Holds.none h e = absurd (omega arith)
   as-group (Holds.single f i s k) h e = absurd (omega (arith, s .kind))
   as-group (Holds.group {r} {inside} {next} i g h k) b e =
@@ -59,7 +59,7 @@ pub record Other (a t : List ℕ) (c l n : ℕ) (xs : Items) (m : ℕ) : Type 0 
 
 module _ {a t : List ℕ} {c : ℕ} where
   pub as-other : {l n m : ℕ} {xs : Items}
-      → Holds a t c l n xs m → n < m → (kindOf (wordOf (getD a n 0)) ≡ 9 → ⊥) → Other a t c l n xs m
+      → Holds a t c l n xs m → n < m → (kindOf (wordOf (getD a n 0)) ≡ kindGroup → ⊥) → Other a t c l n xs m
   as-other Holds.none h e = absurd (omega arith)
   as-other (Holds.single {k} {next} f i s u) h e =
       record { k = k; next = next; first = rw (← s .repeats) at f; means = s .is; sound = (s .kind, s .reaches); two = u }

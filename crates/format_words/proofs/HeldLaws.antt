@@ -1,19 +1,17 @@
 -- Entries that hold items: after one another, and kept when others are written.
 -- Assumes nothing.
-use mathlib.Core.Path.{_≡_, refl, sym, ap, _∙_, subst}
-use mathlib.Core.Bool.{Bool, true, false}
+use mathlib.Core.Path.{_≡_, sym, ap, _∙_, subst}
 use mathlib.Core.List.{List, [], _∷_}
 use Prim.Native.Nat.{ℕ, zero, suc, _+_, _<_, _≤_}
 use native.Mathlib.Nat.{zero-add, suc-add}
 use native.Mathlib.Omega.{arith}
-use native.Mathlib.Decide.{ℕ-discrete}
-use borrow.Author.Tests.{eq-eqb, eqb-false}
-use lib.Dec.{eqb}
+use borrow.Author.Tests.{eq-eqb}
 use lib.ListN.{length, getD, take, drop}
 use lib.Seq.{take-take, take-nil}
 use Rattle.format_items.specs.Items.{times, Items, join}
 use Rattle.format_items.specs.Met.{Met}
-use Rattle.format_words.specs.Words.{pickMet, kindOf, firstOf, secondOf, wordOf, metOf, reach}
+use Rattle.format_words.specs.Words.{kindOf, firstOf, secondOf, wordOf, metOf, reach, kindLiteral, kindGroup}
+use Rattle.format_words.proofs.WordKinds.{is-I, is-F, is-L, is-A, is-Aw, is-X, is-T, is-slash, is-literal, Kinds, kinds}
 use Rattle.format_words.specs.Held.{First, Single, GroupEntry, Holds}
 
 pub holds-le : {a t : List ℕ} {c l n m : ℕ} {xs : Items} → Holds a t c l n xs m → n ≤ m
@@ -51,24 +49,23 @@ slice-kept a b c t u h e =
     ∙ ap (drop a) (sym (take-take (a + b) c u h) ∙ ap (take (a + b)) e ∙ take-take (a + b) c t h)
     ∙ drop-take a b t
 
-picks : (b : Bool) (a x y : Met) → (b ≡ false → x ≡ y) → pickMet b a x ≡ pickMet b a y
-picks true a x y f = refl
-picks false a x y f = f refl
-
-pub met-kept : (w c : ℕ) (t u : List ℕ) → kindOf w < 9 → reach w ≤ c → take c u ≡ take c t → metOf u w ≡ metOf t w
-unfolding metOf reach
-met-kept w c t u low h e = go (ℕ-discrete (kindOf w) 8)
+pub met-kept : (w c : ℕ) (t u : List ℕ) → kindOf w < kindGroup → reach w ≤ c → take c u ≡ take c t → metOf u w ≡ metOf t w
+unfolding reach
+met-kept w c t u low h e = go (kinds w)
   where
-    less : (n : ℕ) → eqb (kindOf w) n ≡ false → kindOf w < n + 1 → kindOf w < n
-    less n f g = omega (arith, eqb-false (kindOf w) n f)
-
-    go : Dec (kindOf w ≡ 8) → metOf u w ≡ metOf t w
-    go (yes z) = rw (slice-kept (firstOf w) (secondOf w) c t u (rw (eq-eqb (kindOf w) 8 z) at h) e)
-    go (no z) =
-        let top : kindOf w < 8 = omega arith in
-        picks _ _ _ _ (λ e0. picks _ _ _ _ (λ e1. picks _ _ _ _ (λ e2. picks _ _ _ _ (λ e3. picks _ _ _ _ (λ e4. picks _ _ _ _ (λ e5. picks _ _ _ _ (λ e6. picks _ _ _ _ (λ e7.
-        let none : kindOf w < 0 = less 0 e0 (less 1 e1 (less 2 e2 (less 3 e3 (less 4 e4 (less 5 e5 (less 6 e6 (less 7 e7 top))))))) in
-        absurd (omega arith)))))))))
+    go : Kinds w → metOf u w ≡ metOf t w
+    go (Kinds.I k) = is-I u w k ∙ sym (is-I t w k)
+    go (Kinds.F k) = is-F u w k ∙ sym (is-F t w k)
+    go (Kinds.L k) = is-L u w k ∙ sym (is-L t w k)
+    go (Kinds.A k) = is-A u w k ∙ sym (is-A t w k)
+    go (Kinds.Aw k) = is-Aw u w k ∙ sym (is-Aw t w k)
+    go (Kinds.X k) = is-X u w k ∙ sym (is-X t w k)
+    go (Kinds.T k) = is-T u w k ∙ sym (is-T t w k)
+    go (Kinds.slash k) = is-slash u w k ∙ sym (is-slash t w k)
+    go (Kinds.literal k) =
+        let z : kindOf w ≡ kindLiteral = omega arith in
+        let s = slice-kept (firstOf w) (secondOf w) c t u (rw (eq-eqb (kindOf w) kindLiteral z) at h) e in
+        is-literal u w k ∙ ap Met.literal s ∙ sym (is-literal t w k)
 
 pub single-kept : {t u : List ℕ} {c d e r : ℕ} {k : Met} → Single t c e r k → take c u ≡ take c t → c ≤ d → Single u d e r k
 single-kept {t} {u} {c} {d} {e} s q h =

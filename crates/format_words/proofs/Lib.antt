@@ -1,3 +1,3 @@
 pub mod WordLaws
-pub mod HeldLaws
 pub mod WordKinds
+pub mod HeldLaws

@@ -8,22 +8,29 @@ use lib.ListN.{take, drop}
 use Rattle.format_items.specs.Items.{Field}
 use Rattle.format_items.specs.Met.{Met}
 
--- a word of a kind below 16, with a first number below 1,024 and a second one
+-- the kinds are below the one, the first numbers of words, and the repeats of entries, below the other
+abbrev pub kindBase : ℕ
+kindBase = 16
+
+abbrev pub firstBase : ℕ
+firstBase = 1024
+
+-- a word of a kind, with a first and a second number
 abbrev pub word : ℕ → ℕ → ℕ → ℕ
-word kind first second = (second * 1024 + first) * 16 + kind
+word kind first second = (second * firstBase + first) * kindBase + kind
 
 -- no word is as large, a second number being at most 1,024
 abbrev pub wordBound : ℕ
 wordBound = 33554432
 
 abbrev pub kindOf : ℕ → ℕ
-kindOf w = w % 16
+kindOf w = w % kindBase
 
 abbrev pub firstOf : ℕ → ℕ
-firstOf w = w / 16 % 1024
+firstOf w = w / kindBase % firstBase
 
 abbrev pub secondOf : ℕ → ℕ
-secondOf w = w / 16384
+secondOf w = w / (kindBase * firstBase)
 
 -- the kinds
 abbrev pub kindI : ℕ
@@ -62,7 +69,7 @@ abbrev pub pickMet : Bool → Met → Met → Met
 pickMet true a b = a
 pickMet false a b = b
 
--- the item met that a word of a kind up to 8 stands for; a literal's numbers are the offset and the count of its characters
+-- the item met that a word stands for, which is of no group; a literal's numbers are the offset and the count of its characters
 -- in t
 unfoldable pub metOf : List ℕ → ℕ → Met
 metOf t w =
@@ -92,10 +99,10 @@ RunWords c (w ∷ ws) = RunWord c w × RunWords c ws
 -- an entry, for an item with its repeat: a word and the repeat; a group's word has the number of entries inside as its first
 -- number, and they follow it
 abbrev pub entry : ℕ → ℕ → ℕ
-entry w r = w * 1024 + r
+entry w r = w * firstBase + r
 
 abbrev pub wordOf : ℕ → ℕ
-wordOf e = e / 1024
+wordOf e = e / firstBase
 
 abbrev pub repeatOf : ℕ → ℕ
-repeatOf e = e % 1024
+repeatOf e = e % firstBase

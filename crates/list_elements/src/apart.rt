@@ -1,9 +1,9 @@
 // A list taken apart into slices of numbers.
-use crate::KIND_BASE;
 use crate::KIND_DECIMAL;
 use crate::KIND_INTEGER;
 use crate::KIND_LOGICAL;
 use crate::KIND_TEXT;
+use crate::LENGTH_BASE;
 use crate::List;
 use crate::ListCheck;
 use crate::Value;
@@ -26,7 +26,7 @@ pub fn kind_number(v: Value) -> u64
         Value::Integer(_) => KIND_INTEGER,
         Value::Decimal(_) => KIND_DECIMAL,
         Value::Logical(_) => KIND_LOGICAL,
-        Value::Text(t) => (t.len as u64) * KIND_BASE + KIND_TEXT,
+        Value::Text(t) => (t.len as u64) * LENGTH_BASE + KIND_TEXT,
     }
 }
 

@@ -1,10 +1,9 @@
 -- Numbers and elements of lines, as the code tests them.
 -- Assumes nothing.
-use mathlib.Core.Path.{_≡_, refl, sym, ap, _∙_}
+use mathlib.Core.Path.{_≡_, refl}
 use mathlib.Core.Bool.{Bool, true, false, _&&_, cond}
 use mathlib.Core.List.{List, [], _∷_}
-use Prim.Native.Nat.{ℕ, _+_, _-_, _^_, _<_, _≤_}
-use native.Mathlib.Nat.{not-suc-le-zero}
+use Prim.Native.Nat.{ℕ, _+_, _-_, _<_, _≤_}
 use native.Mathlib.Omega.{arith}
 use borrow.Author.Tests.{eq-eqb, ne-eqb}
 use lib.Dec.{eqb}
@@ -12,14 +11,13 @@ use lib.IntN.{ℤ}
 use lib.ListN.{length, take, drop, getD, length-drop, List·getD-eq-default}
 use lib.Seq.{take-all}
 use Rattle.number.specs.Limits.{largest}
-use Rattle.number.specs.Digits.{isDigit, allDigits, value}
+use Rattle.number.specs.Digits.{isDigit}
 use Rattle.number.specs.Magnitude.{withSign}
 use Rattle.list_elements.specs.declared.Value.{Value}
 use Rattle.list_elements.specs.declared.Value.the-variants.{Integer, Decimal, Logical, Text}
-use Rattle.list_text.specs.ElementLines.{someDigits, hasMinus, afterMinus, isNumber, numberOf, malformed, integerLine, unitsPart, placesByte, decimalLine, logicalLine, begins, elementOn}
+use Rattle.list_text.specs.ElementLines.{someDigits, hasMinus, isNumber, numberOf, malformed, integerLine, unitsPart, decimalLine, logicalLine, begins, elementOn}
 use Rattle.list_text.specs.Steps.{digitsRead, numberRead}
 use Rattle.list_text.specs.declared.DigitsRead.the-variants as digits
-use Rattle.list_text.specs.declared.NumberRead.{NumberRead}
 use Rattle.list_text.specs.declared.NumberRead.the-variants as number
 use Rattle.list_text.proofs.DigitReads.{digits-largest, digits-value, digits-none}
 

@@ -2,17 +2,16 @@
 -- Assumes nothing.
 use mathlib.Core.Path.{_≡_, refl, sym, ap, subst, _∙_}
 use mathlib.Core.Logic.{_⊎_, inl, inr}
-use mathlib.Core.Bool.{Bool, true, false, _&&_, _||_, cond, false≢true}
+use mathlib.Core.Bool.{Bool, true, false, _&&_, false≢true}
 use mathlib.Core.List.{List, [], _∷_, _++_}
-use Prim.Native.Nat.{ℕ, suc, _+_, _-_, _<_, _≤_}
-use native.Mathlib.Numerals.{add-one}
+use Prim.Native.Nat.{ℕ, suc, _+_, _-_, _≤_}
 use native.Mathlib.Omega.{arith}
-use borrow.Author.Tests.{eqb-true, eqb-false, eq-eqb, ne-eqb, le-leb}
-use lib.Dec.{eqb, leb}
+use borrow.Author.Tests.{eqb-true, eqb-false, ne-eqb, le-leb}
+use lib.Dec.{eqb}
 use lib.IntN.{ℤ}
 use lib.ListN.{length, take, drop, getD, length-append, length-take, take-append-drop}
 use lib.Seq.{take-append-seam, getD-append-add, getD-append-seam, drop-cons, drop-length}
-use Rattle.number.specs.Digits.{isDigit, Digits, allDigits, value}
+use Rattle.number.specs.Digits.{isDigit, Digits, value}
 use Rattle.number.specs.Magnitude.{withSign}
 use Rattle.number.proofs.DigitLaws.{all-digits, digit-bounds}
 use Rattle.list_elements.specs.declared.Value.{Value}

@@ -12,8 +12,7 @@ use lib.Dec.{eqb, leb}
 use lib.ListN.{length, take, drop, getD, length-append, length-drop, length-take, List·getD-eq-default}
 use lib.Seq.{take-append-le, drop-append-le}
 use Rattle.number.specs.Digits.{isDigit}
-use Rattle.buffer.specs.Characters.{allPrintable}
-use Rattle.buffer.proofs.Splicing.{length-part}
+use Rattle.buffer.specs.Characters.{letterI, letterD, letterL, letterA}
 use Rattle.list_elements.specs.Elements.{textBytes}
 use Rattle.list_elements.specs.Limits.{mostElements, longestText, withinLimits, firstFailing, checkValues}
 use Rattle.list_elements.specs.declared.Text.{Text}
@@ -21,7 +20,7 @@ use Rattle.list_elements.specs.declared.Value.{Value}
 use Rattle.list_elements.specs.declared.Value.the-variants as value
 use Rattle.list_elements.specs.declared.ListCheck.the-variants.{Good, Bad}
 use Rattle.list_text.specs.Lines.{lineFeed, firstLine, afterLine, lines}
-use Rattle.list_text.specs.ElementLines.{someDigits, hasMinus, afterMinus, isNumber, numberOf, malformed, integerLine, unitsPart, placesByte, decimalLine, logicalLine, begins, letterI, letterD, letterL, letterA, elementOn}
+use Rattle.list_text.specs.ElementLines.{someDigits, hasMinus, afterMinus, isNumber, numberOf, malformed, integerLine, unitsPart, placesByte, decimalLine, logicalLine, begins, elementOn}
 use Rattle.list_text.specs.ListText.{elementsFrom, lineValues, lineCheck}
 use Rattle.list_text.specs.Promises.{MalformedOutside, longestLine, RefusedAlike, LongRefused}
 use Rattle.list_text.proofs.LineLaws.{line-short, after-is, lines-are}

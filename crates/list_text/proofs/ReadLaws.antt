@@ -1,16 +1,16 @@
 -- The loop over the lines of a list text.
 -- Assumes nothing.
 use mathlib.Core.Path.{_≡_, refl, sym, ap, _∙_}
-use mathlib.Core.Bool.{Bool, true, false, cond}
+use mathlib.Core.Bool.{Bool, true, false}
 use mathlib.Core.List.{List, [], _∷_, _++_, append-assoc, append-nil}
 use Prim.Native.Nat.{ℕ, suc, _+_, _-_, _<_, _≤_}
-use native.Mathlib.Nat.{add-zero, add-assoc}
+use native.Mathlib.Nat.{add-zero}
 use native.Mathlib.Numerals.{add-one}
 use native.Mathlib.Omega.{arith}
 use native.Mathlib.Decide.{decLt}
 use borrow.Author.Tests.{lt-ltb, le-ltb}
 use lib.ListN.{length, getD, take, drop, set, length-drop, drop-of-length-le}
-use lib.Seq.{take-all, take-suc, take-take, getD-take, getD-drop, drop-drop, split-at, append-snoc, length-take-le}
+use lib.Seq.{take-all, take-suc, take-take, getD-take, getD-drop, drop-drop, split-at, length-take-le}
 use Rattle.list_elements.specs.Elements.{zeroValue, emptyList}
 use Rattle.list_elements.specs.Limits.{mostElements, withinLimits, firstFailing, checkValues, checkNumber, checkPlace}
 use Rattle.list_elements.specs.Contents.{elementOf, listOf}

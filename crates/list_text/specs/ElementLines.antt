@@ -7,7 +7,7 @@ use Prim.Native.Nat.{ℕ, _+_, _-_}
 use lib.Dec.{eqb, leb}
 use lib.IntN.{ℤ}
 use lib.ListN.{length, take, drop, getD}
-use Rattle.buffer.specs.Characters.{blank, minusSign, digitZero}
+use Rattle.buffer.specs.Characters.{blank, minusSign, digitZero, letterI, letterD, letterL, letterA, letterT, letterF}
 use Rattle.number.specs.Digits.{isDigit, allDigits, value}
 use Rattle.number.specs.Magnitude.{withSign}
 use Rattle.list_elements.specs.declared.Value.{Value}
@@ -34,24 +34,6 @@ unfoldable pub numberOf : List ℕ → ℤ
 numberOf s = withSign (hasMinus s) (value (afterMinus s))
 
 -- ---- the four kinds of lines
-
-abbrev pub letterI : ℕ
-letterI = 73
-
-abbrev pub letterD : ℕ
-letterD = 68
-
-abbrev pub letterL : ℕ
-letterL = 76
-
-abbrev pub letterA : ℕ
-letterA = 65
-
-abbrev pub letterT : ℕ
-letterT = 84
-
-abbrev pub letterF : ℕ
-letterF = 70
 
 -- 'A malformed element line is refusal 6 at that element': it counts as a text of length 0, which row 6 refuses
 abbrev pub malformed : Value

@@ -7,7 +7,7 @@ use mathlib.Core.List.{List, [], _∷_, _++_}
 use Prim.Native.Nat.{ℕ, _+_, _-_, _*_, _<_, _≤_}
 use lib.IntN.{ℤ}
 use lib.ListN.{length}
-use Rattle.buffer.specs.Characters.{blank, minusSign, digitZero, digitNine}
+use Rattle.buffer.specs.Characters.{blank, minusSign, digitZero, digitNine, letterI, letterD, letterL, letterA, letterT, letterF}
 use Rattle.number.specs.Digits.{Digits, value}
 use Rattle.number.specs.Magnitude.{withSign}
 use Rattle.list_elements.specs.Limits.{mostElements, longestText, withinLimits}
@@ -15,7 +15,7 @@ use Rattle.list_elements.specs.declared.Value.{Value}
 use Rattle.list_elements.specs.declared.Value.the-variants as value
 use Rattle.list_elements.specs.declared.ListCheck.the-variants.{Bad}
 use Rattle.list_text.specs.Lines.{firstLine, afterLine, lines}
-use Rattle.list_text.specs.ElementLines.{letterI, letterD, letterL, letterA, letterT, letterF, malformed, elementOn}
+use Rattle.list_text.specs.ElementLines.{malformed, elementOn}
 use Rattle.list_text.specs.ListText.{lineCheck}
 
 -- a text has its first line, and the lines of what follows it; the empty text has none

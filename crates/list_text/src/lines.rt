@@ -1,6 +1,6 @@
 // The lines of a text.
 ghost use mathlib.Core.Path.{_≡_};
-ghost use Prim.Native.Nat.{_+_, _≤_};
+ghost use Prim.Native.Nat.{_+_, _≤_, min};
 ghost use lib.ListN.{length, drop};
 ghost use Rattle.list_text.specs.Lines.{firstLine};
 
@@ -22,7 +22,7 @@ pub fn line_end(text: &[u8], from: usize) -> usize
 // Where the next line starts, after a line's end.
 pub fn next_line(text: &[u8], end: usize) -> usize
     requires { ⌜ end ≤ length (now text) ⌝ }
-    ensures { λ r. ⌜ (drop r (now (text .entry)) ≡ drop (end + 1) (now (text .entry))) × (r ≤ length (now (text .entry))) ⌝ }
+    ensures { λ r. ⌜ (drop r (now (text .entry)) ≡ drop (end + 1) (now (text .entry))) × (r ≤ length (now (text .entry))) × (r ≡ min (end + 1) (length (now (text .entry)))) ⌝ }
 {
     if end < text.len() {
         return end + 1;

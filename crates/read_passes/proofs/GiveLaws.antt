@@ -1,19 +1,18 @@
 -- The list made of the elements read: what holds at each turn.
 -- Assumes nothing.
 use mathlib.Core.Path.{_≡_, refl, sym, ap, subst, _∙_}
-use mathlib.Core.List.{List, [], _∷_, _++_, map, map-append}
-use Prim.Native.Nat.{ℕ, suc, _+_, _-_, _<_, _≤_}
+use mathlib.Core.List.{List, [], _∷_, _++_, map}
+use Prim.Native.Nat.{ℕ, _+_, _-_, _<_, _≤_}
 use native.Mathlib.Nat.{zero-add}
 use native.Mathlib.Numerals.{add-one}
 use native.Mathlib.Omega.{arith}
 use lib.IntN.{ℤ, pos}
-use lib.ListN.{length, getD, set, take, drop, replicate, length-append, length-map, take-append-drop, List·getD-map}
-use lib.Seq.{take-all, take-suc, set-at, ext-getD, length-take-le, append-snoc}
+use lib.ListN.{length, getD, set, take, drop, length-append, length-map, take-append-drop, List·getD-map}
+use lib.Seq.{take-all, take-suc, ext-getD}
 use Rattle.buffer.specs.Splice.{splice}
 use Rattle.buffer.proofs.Splicing.{splice-then, splice-nothing}
 use Rattle.field_read.proofs.Promises.{text-read-length}
 use Rattle.list_elements.specs.Elements.{Kind, integer, decimal, logical, text, textLength, zeroValue, emptyList}
-use Rattle.list_elements.specs.Limits.{mostElements}
 use Rattle.list_elements.specs.Apart.{kindFrom}
 use Rattle.list_elements.specs.Contents as content
 use Rattle.list_elements.specs.Contents.{Content, contentKind, bytesOf, textsOf, laidTexts, valueFrom, valuesFrom, elementOf, listOf}

@@ -19,12 +19,13 @@ use Rattle.field_read.specs.declared.LogicalRead.{LogicalRead}
 use Rattle.field_read.specs.declared.LogicalRead.the-variants as truth
 use Rattle.format_items.specs.Items.{Field}
 use Rattle.format_items.specs.Met.{Met}
-use Rattle.format_words.specs.Words.{kindOf, firstOf, secondOf, metOf}
-use Rattle.format_words.proofs.WordKinds.{is-I, is-F, is-L, is-A, is-Aw, is-X, is-T, is-slash, is-literal}
+use Rattle.format_words.specs.Words.{kindOf, firstOf, secondOf, metOf, kindI, kindF, kindL, kindA, kindAw}
+use Rattle.format_words.proofs.WordKinds.{is-I, is-F, is-L, is-A, is-Aw, is-literal}
 use Rattle.list_elements.specs.Elements.{Kind, integer, decimal, logical, text, textLength}
 use Rattle.list_elements.specs.Contents as content
 use Rattle.sheet_walk.specs.Steps.{suits}
 use Rattle.sheet_walk.specs.Turns.{whatOf, Covering, WordCovers}
+use Rattle.sheet_walk.proofs.ItemLaws.{covering-literal}
 use Rattle.read_passes.specs.Given.{gives, integerGiven, decimalGiven, logicalGiven, textGiven, fieldGives, kindAt}
 use Rattle.read_passes.specs.Passes.{HeldAs, numberTaken, logicalTaken, GivenAs, TakenAs}
 use Rattle.read_passes.proofs.GivenLaws.{is-integer, is-decimal, is-logical, is-text}
@@ -80,26 +81,26 @@ module _ {t : List ℕ} {kinds : List Kind} {word i w : ℕ} (p : WordCovers t k
   of-field : (f : Field ℕ) → metOf t word ≡ Met.field f → (r : Taken) → GivenAs records (kindAt kinds i) (fieldGives f (kindAt kinds i) part) r → Gives r
   of-field f e r g = subst (λ x. TakenAs records kinds at w (whatOf x i) r) (sym e) g
 
-  pub I-taken : kindOf word ≡ 0 → Gives (numberTaken (readField Numeric.I part))
+  pub I-taken : kindOf word ≡ kindI → Gives (numberTaken (readField Numeric.I part))
   unfolding fieldGives
   I-taken k =
       let e = is-I t word k in
       of-field (Field.I (firstOf word)) e (numberTaken (readField Numeric.I part)) (given-integer records (kindAt kinds i) (sym (is-integer (kindAt kinds i) (suited (Field.I (firstOf word)) e))) (readField Numeric.I part))
 
-  pub F-taken : kindOf word ≡ 1 → Gives (numberTaken (readField (Numeric.F (secondOf word)) part))
+  pub F-taken : kindOf word ≡ kindF → Gives (numberTaken (readField (Numeric.F (secondOf word)) part))
   unfolding fieldGives
   F-taken k =
       let e = is-F t word k in
       let f = Field.F (firstOf word) (secondOf word) in
       of-field f e (numberTaken (readField (Numeric.F (secondOf word)) part)) (given-decimal records (kindAt kinds i) (sym (is-decimal (kindAt kinds i) (suited f e))) (readField (Numeric.F (secondOf word)) part))
 
-  pub L-taken : kindOf word ≡ 2 → Gives (logicalTaken (logicalRead part))
+  pub L-taken : kindOf word ≡ kindL → Gives (logicalTaken (logicalRead part))
   unfolding fieldGives
   L-taken k =
       let e = is-L t word k in
       of-field (Field.L (firstOf word)) e (logicalTaken (logicalRead part)) (given-logical records (kindAt kinds i) (sym (is-logical (kindAt kinds i) (suited (Field.L (firstOf word)) e))) (logicalRead part))
 
-  pub A-taken : (kindOf word ≡ 3) ⊎ (kindOf word ≡ 4) → at + w ≤ length records → w < 256 → Gives (cond (allPrintable part) (Element (pos w) at) Nothing)
+  pub A-taken : (kindOf word ≡ kindA) ⊎ (kindOf word ≡ kindAw) → at + w ≤ length records → w < 256 → Gives (cond (allPrintable part) (Element (pos w) at) Nothing)
   unfolding fieldGives
   A-taken (inl k) room narrow =
       let e = is-A t word k in
@@ -108,16 +109,7 @@ module _ {t : List ℕ} {kinds : List Kind} {word i w : ℕ} (p : WordCovers t k
       let e = is-Aw t word k in
       of-field (Field.Aw (firstOf word)) e (cond (allPrintable part) (Element (pos w) at) Nothing) (given-text records (kindAt kinds i) at w (sym (is-text (kindAt kinds i) (suited (Field.Aw (firstOf word)) e))) room narrow)
 
-  -- no other item covers columns but a literal
-  covering : (kindOf word ≡ 5 → ⊥) × (kindOf word ≡ 6 → ⊥) × (kindOf word ≡ 7 → ⊥)
-  covering = (
-    (λ e. subst (λ x. Covering kinds x i w) (is-X t word e) (p .covers)),
-    (λ e. subst (λ x. Covering kinds x i w) (is-T t word e) (p .covers)),
-    (λ e. subst (λ x. Covering kinds x i w) (is-slash t word e) (p .covers)),
-  )
-
-  pub literal-taken : 4 < kindOf word → Gives Literal
+  pub literal-taken : kindAw < kindOf word → Gives Literal
   literal-taken k =
-      let c = covering in
-      let h : 7 < kindOf word = omega (arith, c .0, c .1, c .2) in
+      let h = covering-literal t kinds word i w (p .covers) k in
       subst (λ x. TakenAs records kinds at w (whatOf x i) Literal) (sym (is-literal t word h)) refl

@@ -2,10 +2,10 @@
 use field_read::text::read_text;
 use list_elements::Decimal;
 use list_elements::Element;
-use list_elements::KIND_BASE;
 use list_elements::KIND_DECIMAL;
 use list_elements::KIND_INTEGER;
 use list_elements::KIND_LOGICAL;
+use list_elements::LENGTH_BASE;
 use list_elements::List;
 use list_elements::Text;
 use list_elements::Value;
@@ -33,7 +33,7 @@ fn give_value(
     ensures value { λ r. ⌜ ((c : Content) → HeldAs (now (records .entry)) (kindFrom kind) amount detail c → r ≡ valueFrom at c) ⌝ }
     ensures bytes { λ r. ⌜ ((c : Content) → HeldAs (now (records .entry)) (kindFrom kind) amount detail c → now (area .exit) ≡ splice (now (area .entry)) at (bytesOf c)) ⌝ }
 {
-    match kind % KIND_BASE {
+    match kind % LENGTH_BASE {
         KIND_INTEGER => Value::Integer(amount),
         KIND_DECIMAL => Value::Decimal(Decimal {
             units: amount,
@@ -41,7 +41,7 @@ fn give_value(
         }),
         KIND_LOGICAL => Value::Logical(truth(amount)),
         _ => {
-            let len = (kind / KIND_BASE) as usize;
+            let len = (kind / LENGTH_BASE) as usize;
             let width = number::sign::magnitude(amount) as usize;
             read_text(area, at, len, records, detail, width);
             Value::Text(Text { start: at, len })

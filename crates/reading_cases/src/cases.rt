@@ -2,9 +2,7 @@
 use crate::answers::show_answer;
 use crate::answers::show_refusal;
 use crate::records::bytes_of;
-use case_lines::lines::after;
 use case_lines::lines::begins;
-use case_lines::lines::line_end;
 use case_lines::marks::front;
 use case_lines::marks::marks;
 use case_lines::numbers::number_after;
@@ -15,6 +13,8 @@ use case_lines::shown::show_line_end;
 use case_lines::shown::show_records;
 use libc::STDOUT_FILENO;
 use list_elements::List;
+use list_text::lines::line_end;
+use list_text::lines::next_line;
 use sheet_read::read::read;
 use sheet_walk::Answer;
 use sheet_write::write::write;
@@ -105,7 +105,7 @@ fn show_comment(text: &[u8], from: usize) -> usize
     let end = line_end(text, from);
     io::write_all(STDOUT_FILENO, &text[from..end]);
     show_line_end();
-    after(text, end)
+    next_line(text, end)
 }
 
 // A comment or a case.

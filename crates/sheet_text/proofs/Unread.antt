@@ -6,10 +6,9 @@ use mathlib.Core.List.{List, _++_}
 use Prim.Native.Nat.{ℕ, _+_, _-_, _<_}
 use native.Mathlib.Decide.{decLt}
 use native.Mathlib.Omega.{arith}
-use borrow.Author.Tests.{lt-ltb}
 use lib.ListN.{length, take, drop, take-append-drop}
 use lib.Seq.{take-all, length-take-le}
-use Rattle.format_grammar.specs.Check.{outcome, refused}
+use Rattle.format_grammar.proofs.Promises.{outcome-long}
 use Rattle.format_items.specs.Refusals.{longestFormat}
 use Rattle.format_items.specs.declared.FormatRefusal.the-variants.{Length}
 use Rattle.list_elements.specs.declared.Value.{Value}
@@ -47,16 +46,12 @@ line-wide l h = rw (digits-over mostWidthDigits l h)
 
 -- ---- a format that is too long
 
-long-outcome : (f : List ℕ) → longestFormat < length f → outcome f ≡ refused Length
-unfolding outcome
-long-outcome f h = rw (lt-ltb longestFormat (length f) h)
-
 format-out : (R : ℕ) (f g a b : List ℕ) → longestFormat < length f → longestFormat < length g → out R f a ≡ out R g b
 unfolding out
 format-out R f g a b h k =
     rw (
-      wrong-writing R f (lineCheck a) (lineValues a) recordBuffer (long-outcome f h),
-      wrong-writing R g (lineCheck b) (lineValues b) recordBuffer (long-outcome g k),
+      wrong-writing R f (lineCheck a) (lineValues a) recordBuffer (outcome-long f h),
+      wrong-writing R g (lineCheck b) (lineValues b) recordBuffer (outcome-long g k),
     )
     (same-refusal (wrong-is-refused R Length) R R a b (lineValues a) (lineValues b))
 

@@ -1,8 +1,8 @@
 // Numbers of the output, as digits with no leading zero. Each function answers the offset after what it puts.
-use field_written::parts::put_digits;
 use number::LARGEST;
 use number::digits::digit_count;
 use number::powers::power_of_ten;
+use number::put::put_digits;
 ghost use mathlib.Core.Path.{_≡_};
 ghost use Prim.Native.Nat.{_+_, _≤_};
 ghost use lib.ListN.{length};

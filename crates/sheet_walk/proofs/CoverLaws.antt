@@ -3,19 +3,19 @@
 use mathlib.Core.Path.{_≡_, refl, sym, subst, _∙_}
 use mathlib.Core.Bool.{Bool, true, false, cond}
 use mathlib.Core.List.{List, map}
-use Prim.Native.Nat.{ℕ, zero, suc, _+_, _%_, _<_, _≤_}
+use Prim.Native.Nat.{ℕ, _+_, _%_, _<_, _≤_}
 use native.Mathlib.Omega.{arith}
 use borrow.Author.Tests.{eq-eqb}
 use lib.Dec.{leb, ltb}
 use lib.ListN.{length, getD, drop}
 use Rattle.format_items.specs.Items.{Field}
 use Rattle.format_items.specs.Met.{Met}
-use Rattle.format_words.specs.Words.{metOf, kindOf, firstOf}
-use Rattle.format_words.proofs.WordKinds.{is-I, is-F, is-L, is-A, is-Aw, is-X, is-T, is-slash}
+use Rattle.format_words.specs.Words.{metOf, kindOf, firstOf, kindAw, kindLiteral}
+use Rattle.format_words.proofs.WordKinds.{is-I, is-F, is-L, is-A, is-Aw, is-X, is-T, is-slash, Kinds, kinds}
 use Rattle.list_elements.specs.Elements.{Kind}
 use Rattle.list_elements.specs.Apart.{kindFrom}
 use Rattle.sheet_walk.specs.Steps as steps
-use Rattle.sheet_walk.specs.Steps.{element, coverStep, fieldStep, xStep, tStep, nextRecord, hasField, endStep}
+use Rattle.sheet_walk.specs.Steps.{element, coverStep, fieldStep, nextRecord, hasField, endStep}
 use Rattle.sheet_walk.specs.Turns.{fieldKind, fieldColumns, elementKind, columnsFor, stepAnswer, onwardAnswer, sheetOf, turnOf, coverIn, Seen}
 use Rattle.sheet_walk.specs.declared.Records.{Records}
 use Rattle.sheet_walk.specs.declared.State.{State}
@@ -78,20 +78,20 @@ module _ (i R : ℕ) where
   end-bare ks rs part s = either (leb (length ks) (s .taken)) (bare refl) (either (hasField part) (next-bare rs s) (bare refl))
 
   -- the item of a word, by the kinds between those of fields and of literals
-  moves-by : (ks : List Kind) (rs : Records) (t : List ℕ) (w n : ℕ) (s : State) → kindOf w ≡ n → 4 < n → n < 8 → Bare i R (steps.step ks rs (metOf t w) s)
+  pub moves-bare : (ks : List Kind) (rs : Records) (t : List ℕ) (w : ℕ) (s : State) → kindAw < kindOf w → kindOf w < kindLiteral → Bare i R (steps.step ks rs (metOf t w) s)
   unfolding steps.step
-  moves-by ks rs t w zero s e l h = absurd (omega arith)
-  moves-by ks rs t w (suc zero) s e l h = absurd (omega arith)
-  moves-by ks rs t w (suc (suc zero)) s e l h = absurd (omega arith)
-  moves-by ks rs t w (suc (suc (suc zero))) s e l h = absurd (omega arith)
-  moves-by ks rs t w (suc (suc (suc (suc zero)))) s e l h = absurd (omega arith)
-  moves-by ks rs t w (suc (suc (suc (suc (suc zero))))) s e l h = rw (is-X t w e) (either (leb (s .column + firstOf w) (rs .width + 1)) (bare refl) (bare refl))
-  moves-by ks rs t w (suc (suc (suc (suc (suc (suc zero)))))) s e l h = rw (is-T t w e) (either (leb (firstOf w) (rs .width)) (bare refl) (bare refl))
-  moves-by ks rs t w (suc (suc (suc (suc (suc (suc (suc zero))))))) s e l h = rw (is-slash t w e) (next-bare rs s)
-  moves-by ks rs t w (suc (suc (suc (suc (suc (suc (suc (suc n)))))))) s e l h = absurd (omega arith)
-
-  pub moves-bare : (ks : List Kind) (rs : Records) (t : List ℕ) (w : ℕ) (s : State) → 4 < kindOf w → kindOf w < 8 → Bare i R (steps.step ks rs (metOf t w) s)
-  moves-bare ks rs t w s l h = moves-by ks rs t w (kindOf w) s refl l h
+  moves-bare ks rs t w s l h = go (kinds w)
+    where
+      go : Kinds w → Bare i R (steps.step ks rs (metOf t w) s)
+      go (Kinds.I e) = absurd (omega arith)
+      go (Kinds.F e) = absurd (omega arith)
+      go (Kinds.L e) = absurd (omega arith)
+      go (Kinds.A e) = absurd (omega arith)
+      go (Kinds.Aw e) = absurd (omega arith)
+      go (Kinds.X e) = rw (is-X t w e) (either (leb (s .column + firstOf w) (rs .width + 1)) (bare refl) (bare refl))
+      go (Kinds.T e) = rw (is-T t w e) (either (leb (firstOf w) (rs .width)) (bare refl) (bare refl))
+      go (Kinds.slash e) = rw (is-slash t w e) (next-bare rs s)
+      go (Kinds.literal g) = absurd (omega arith)
 
 -- ---- the code's answers
 
@@ -122,16 +122,19 @@ pub record FieldWord (t : List ℕ) (w : ℕ) : Type 0 where
   pub kind : fieldKind f ≡ elementKind w
   pub columns : (k : ℕ) → fieldColumns f k ≡ columnsFor w k
 
-field-by : (t : List ℕ) (w n : ℕ) → kindOf w ≡ n → n ≤ 4 → FieldWord t w
-field-by t w zero e h = record { f = _; is = is-I t w e; kind = rw e; columns = λ k. rw e }
-field-by t w (suc zero) e h = record { f = _; is = is-F t w e; kind = rw e; columns = λ k. rw e }
-field-by t w (suc (suc zero)) e h = record { f = _; is = is-L t w e; kind = rw e; columns = λ k. rw e }
-field-by t w (suc (suc (suc zero))) e h = record { f = _; is = is-A t w e; kind = rw e; columns = λ k. rw e }
-field-by t w (suc (suc (suc (suc zero)))) e h = record { f = _; is = is-Aw t w e; kind = rw e; columns = λ k. rw e }
-field-by t w (suc (suc (suc (suc (suc n))))) e h = absurd (omega arith)
-
-pub field-word : (t : List ℕ) (w : ℕ) → kindOf w ≤ 4 → FieldWord t w
-field-word t w h = field-by t w (kindOf w) refl h
+pub field-word : (t : List ℕ) (w : ℕ) → kindOf w ≤ kindAw → FieldWord t w
+field-word t w h = go (kinds w)
+  where
+    go : Kinds w → FieldWord t w
+    go (Kinds.I e) = record { f = _; is = is-I t w e; kind = rw e; columns = λ k. rw e }
+    go (Kinds.F e) = record { f = _; is = is-F t w e; kind = rw e; columns = λ k. rw e }
+    go (Kinds.L e) = record { f = _; is = is-L t w e; kind = rw e; columns = λ k. rw e }
+    go (Kinds.A e) = record { f = _; is = is-A t w e; kind = rw e; columns = λ k. rw e }
+    go (Kinds.Aw e) = record { f = _; is = is-Aw t w e; kind = rw e; columns = λ k. rw e }
+    go (Kinds.X e) = absurd (omega arith)
+    go (Kinds.T e) = absurd (omega arith)
+    go (Kinds.slash e) = absurd (omega arith)
+    go (Kinds.literal g) = absurd (omega arith)
 
 -- a field that suits the next element covers its columns
 pub field-step : (rs : Records) (s : State) (ks : List ℕ) {kind width : ℕ} (f : Field ℕ) → fieldKind f ≡ kind → fieldColumns f (getD ks (s .taken) 0) ≡ width

@@ -1,6 +1,6 @@
 -- The items of a run of words.
 -- Assumes nothing.
-use mathlib.Core.Path.{_≡_, refl}
+use mathlib.Core.Path.{_≡_, refl, subst}
 use mathlib.Core.Bool.{true, false}
 use mathlib.Core.List.{List, [], _∷_, map}
 use Prim.Native.Nat.{ℕ, zero, suc, _+_, _<_, _≤_}
@@ -11,9 +11,11 @@ use lib.Dec.{leb}
 use lib.ListN.{length, getD, take, drop, length-map, List·getD-map, drop-of-length-le, length-drop}
 use lib.Seq.{drop-cons, length-take-le}
 use Rattle.format_items.specs.Met.{Met}
-use Rattle.format_words.specs.Words.{kindOf, firstOf, secondOf, metOf, reach, RunWord, RunWords}
-use Rattle.format_words.proofs.WordKinds.{is-I, is-F, is-L, is-A, is-Aw, is-X, is-T, is-slash, is-literal}
+use Rattle.format_words.specs.Words.{kindOf, firstOf, secondOf, metOf, reach, RunWord, RunWords, kindAw, kindLiteral}
+use Rattle.format_words.proofs.WordKinds.{is-I, is-F, is-L, is-A, is-Aw, is-X, is-T, is-slash, is-literal, Kinds, kinds}
+use Rattle.list_elements.specs.Elements.{Kind}
 use Rattle.sheet_walk.specs.Steps.{isField, hasField}
+use Rattle.sheet_walk.specs.Turns.{Covering}
 
 -- ---- from an index on
 
@@ -42,21 +44,19 @@ word-at c (w ∷ ws) (suc i) g h = word-at c ws i (g .1) (omega arith)
 
 -- ---- fields
 
-field-by : (t : List ℕ) (w n : ℕ) → kindOf w ≡ n → isField (metOf t w) ≡ leb n 4
-field-by t w zero e = rw (is-I t w e)
-field-by t w (suc zero) e = rw (is-F t w e)
-field-by t w (suc (suc zero)) e = rw (is-L t w e)
-field-by t w (suc (suc (suc zero))) e = rw (is-A t w e)
-field-by t w (suc (suc (suc (suc zero)))) e = rw (is-Aw t w e)
-field-by t w (suc (suc (suc (suc (suc zero))))) e = rw (is-X t w e)
-field-by t w (suc (suc (suc (suc (suc (suc zero)))))) e = rw (is-T t w e)
-field-by t w (suc (suc (suc (suc (suc (suc (suc zero))))))) e = rw (is-slash t w e)
-field-by t w (suc (suc (suc (suc (suc (suc (suc (suc n)))))))) e =
-    let m : ℕ = suc (suc (suc (suc (suc (suc (suc (suc n))))))) in
-    rw (is-literal t w (omega arith), lt-leb m 4 (omega arith))
-
-pub field-is : (t : List ℕ) (w : ℕ) → isField (metOf t w) ≡ leb (kindOf w) 4
-field-is t w = field-by t w (kindOf w) refl
+pub field-is : (t : List ℕ) (w : ℕ) → isField (metOf t w) ≡ leb (kindOf w) kindAw
+field-is t w = go (kinds w)
+  where
+    go : Kinds w → isField (metOf t w) ≡ leb (kindOf w) kindAw
+    go (Kinds.I e) = rw (is-I t w e, e)
+    go (Kinds.F e) = rw (is-F t w e, e)
+    go (Kinds.L e) = rw (is-L t w e, e)
+    go (Kinds.A e) = rw (is-A t w e, e)
+    go (Kinds.Aw e) = rw (is-Aw t w e, e)
+    go (Kinds.X e) = rw (is-X t w e, e)
+    go (Kinds.T e) = rw (is-T t w e, e)
+    go (Kinds.slash e) = rw (is-slash t w e, e)
+    go (Kinds.literal h) = rw (is-literal t w h, lt-leb (kindOf w) kindAw (omega arith))
 
 module _ (t ws : List ℕ) (i : ℕ) where
   pub has-found : i < length ws → true ≡ isField (metOf t (getD ws i 0)) → true ≡ hasField (drop i (map (metOf t) ws))
@@ -74,9 +74,24 @@ module _ (t ws : List ℕ) (i : ℕ) where
 -- ---- literals
 
 -- a literal's characters, as many as its second number says
-pub literal-length : (t : List ℕ) (w : ℕ) → RunWord (length t) w → 7 < kindOf w → length (take (secondOf w) (drop (firstOf w) t)) ≡ secondOf w
+pub literal-length : (t : List ℕ) (w : ℕ) → RunWord (length t) w → kindLiteral ≤ kindOf w → length (take (secondOf w) (drop (firstOf w) t)) ≡ secondOf w
 unfolding reach
 literal-length t w g h =
-    let k : kindOf w ≡ 8 = omega (arith, g .0) in
+    let k : kindOf w ≡ kindLiteral = omega (arith, g .0) in
     let r : firstOf w + secondOf w ≤ length t = rw k at (g .1) in
     length-take-le (secondOf w) (drop (firstOf w) t) (simp length-drop (omega arith))
+
+-- no other item than a field covers columns but a literal
+pub covering-literal : (t : List ℕ) (ks : List Kind) (w i n : ℕ) → Covering ks (metOf t w) i n → kindAw < kindOf w → kindLiteral ≤ kindOf w
+covering-literal t ks w i n c h = go (kinds w)
+  where
+    go : Kinds w → kindLiteral ≤ kindOf w
+    go (Kinds.I e) = absurd (omega arith)
+    go (Kinds.F e) = absurd (omega arith)
+    go (Kinds.L e) = absurd (omega arith)
+    go (Kinds.A e) = absurd (omega arith)
+    go (Kinds.Aw e) = absurd (omega arith)
+    go (Kinds.X e) = absurd (subst (λ (x : Met). Covering ks x i n) (is-X t w e) c)
+    go (Kinds.T e) = absurd (subst (λ (x : Met). Covering ks x i n) (is-T t w e) c)
+    go (Kinds.slash e) = absurd (subst (λ (x : Met). Covering ks x i n) (is-slash t w e) c)
+    go (Kinds.literal g) = g

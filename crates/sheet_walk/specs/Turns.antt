@@ -10,9 +10,9 @@ use lib.ListN.{length, drop, getD}
 use Rattle.format_items.specs.Items.{Field}
 use Rattle.format_items.specs.Met.{Met}
 use Rattle.format_items.specs.MetRanges.{MetWithin, AllMetWithin}
-use Rattle.format_words.specs.Words.{metOf, kindOf, firstOf, RunWord, RunWords}
+use Rattle.format_words.specs.Words.{metOf, kindOf, firstOf, RunWord, RunWords, kindA}
 use Rattle.list_elements.specs.Elements.{Kind}
-use Rattle.list_elements.specs.Apart.{kindFrom}
+use Rattle.list_elements.specs.Apart.{integerKind, decimalKind, logicalKind, textKind, lengthBase, kindFrom}
 use Rattle.sheet_walk.specs.Steps as steps
 use Rattle.sheet_walk.specs.Steps.{What, element, literal}
 use Rattle.sheet_walk.specs.Walk.{Sheet}
@@ -41,25 +41,25 @@ pub record Standing (rs : Records) (s : State) : Type 0 where
 -- ---- the kind that a field takes, and its columns under an element's kind, as numbers
 
 abbrev pub fieldKind : Field ℕ → ℕ
-fieldKind (Field.I w) = 0
-fieldKind (Field.F w d) = 1
-fieldKind (Field.L w) = 2
-fieldKind Field.A = 3
-fieldKind (Field.Aw w) = 3
+fieldKind (Field.I w) = integerKind
+fieldKind (Field.F w d) = decimalKind
+fieldKind (Field.L w) = logicalKind
+fieldKind Field.A = textKind
+fieldKind (Field.Aw w) = textKind
 
 abbrev pub fieldColumns : Field ℕ → ℕ → ℕ
 fieldColumns (Field.I w) k = w
 fieldColumns (Field.F w d) k = w
 fieldColumns (Field.L w) k = w
-fieldColumns Field.A k = k / 4
+fieldColumns Field.A k = k / lengthBase
 fieldColumns (Field.Aw w) k = w
 
--- the same by a field's word
+-- the same by a field's word: the words of I, F and L have the numbers of their elements' kinds
 abbrev pub elementKind : ℕ → ℕ
-elementKind w = cond (ltb (kindOf w) 3) (kindOf w) 3
+elementKind w = cond (ltb (kindOf w) textKind) (kindOf w) textKind
 
 abbrev pub columnsFor : ℕ → ℕ → ℕ
-columnsFor w k = cond (eqb (kindOf w) 3) (k / 4) (firstOf w)
+columnsFor w k = cond (eqb (kindOf w) kindA) (k / lengthBase) (firstOf w)
 
 -- ---- what the item of a word covers columns with
 

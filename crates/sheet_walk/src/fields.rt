@@ -3,7 +3,7 @@ use crate::Records;
 use crate::Refusal;
 use crate::State;
 use crate::Step;
-use list_elements::KIND_BASE;
+use list_elements::LENGTH_BASE;
 ghost use mathlib.Core.Path.{_≡_};
 ghost use mathlib.Core.List.{map};
 ghost use Prim.Native.Nat.{ℕ, _/_};
@@ -38,7 +38,7 @@ pub fn text_width(kinds: &[u64], taken: usize) -> usize
     ensures { λ r. ⌜ r ≡ getD (now (kinds .entry)) taken 0 / 4 ⌝ }
 {
     if taken < kinds.len() {
-        return (kinds[taken] / KIND_BASE) as usize;
+        return (kinds[taken] / LENGTH_BASE) as usize;
     }
     0
 }
@@ -50,7 +50,7 @@ pub fn field(rs: Records, s: State, kinds: &[u64], kind: u64, width: usize) -> S
 {
     let i = s.taken;
     if i < kinds.len() {
-        if kinds[i] % KIND_BASE == kind {
+        if kinds[i] % LENGTH_BASE == kind {
             return cover(rs, s, width, i + 1);
         }
         return Step::Refused(Refusal::Kind { place: i });

@@ -91,7 +91,7 @@ fn field_columns(word: u64, kind: u64) -> usize
     ensures { λ r. ⌜ r ≡ columnsFor word kind ⌝ }
 {
     if word % KIND_BASE == KIND_A {
-        return (kind / list_elements::KIND_BASE) as usize;
+        return (kind / list_elements::LENGTH_BASE) as usize;
     }
     (word / KIND_BASE % FIRST_BASE) as usize
 }
@@ -190,7 +190,7 @@ pub fn cover_at(
     if kinds.len() <= place {
         return Cover::Nothing;
     }
-    if kinds[place] % list_elements::KIND_BASE != element_kind(word) {
+    if kinds[place] % list_elements::LENGTH_BASE != element_kind(word) {
         return Cover::Nothing;
     }
     columns(rs, s, field_columns(word, kinds[place]), place + 1, i + 1)

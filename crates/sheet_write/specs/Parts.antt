@@ -20,7 +20,7 @@ use Rattle.sheet_write.specs.Writing.{Writing, walked, writingOf, answer
 use Rattle.sheet_walk.specs.declared.Answer.{Answer}
 
 -- a loaded run and a good list taken apart, for some list of values
-pub record SomeReady (t area words kinds : List ℕ) (amounts : List ℤ) (details : List ℕ) (rs : Records) : Type 0 where
+pub record SomeValuesReady (t area words kinds : List ℕ) (amounts : List ℤ) (details : List ℕ) (rs : Records) : Type 0 where
   pub vs : List Value
   pub ready : Ready t area vs words kinds amounts details rs
 

@@ -6,7 +6,7 @@ use write_passes::checking::check_pass;
 use write_passes::laying::lay_pass;
 ghost use lib.ListN.{length};
 ghost use Rattle.sheet_walk.specs.Turns.{Roomy};
-ghost use Rattle.sheet_write.specs.Parts.{SomeReady, WroteWords};
+ghost use Rattle.sheet_write.specs.Parts.{SomeValuesReady, WroteWords};
 
 pub fn write_records(
     rs: Records,
@@ -19,7 +19,7 @@ pub fn write_records(
     area: &[u8],
     buffer: &mut [u8],
 ) -> Answer
-    requires { ⌜ Roomy rs (length (now buffer)) × SomeReady (now chars) (now area) (now words) (now kinds) (now amounts) (now details) rs ⌝ }
+    requires { ⌜ Roomy rs (length (now buffer)) × SomeValuesReady (now chars) (now area) (now words) (now kinds) (now amounts) (now details) rs ⌝ }
     ensures { λ r. ⌜ WroteWords rs (now (words .entry)) back (now (chars .entry)) (now (kinds .entry)) (now (amounts .entry)) (now (details .entry)) (now (area .entry)) (now (buffer .entry)) r (now (buffer .exit)) ⌝ }
 {
     match check_pass(words, back, kinds, amounts, details, rs) {

@@ -21,7 +21,7 @@ use Rattle.buffer.specs.Splice.{splice}
 use Rattle.format_items.specs.Items.{Field}
 use Rattle.format_items.specs.Met.{Met}
 use Rattle.format_items.specs.MetRanges.{MetWithin}
-use Rattle.format_words.specs.Words.{kindOf, firstOf, secondOf, metOf, reach}
+use Rattle.format_words.specs.Words.{kindOf, firstOf, secondOf, metOf, reach, kindI, kindF, kindL, kindA, kindAw, kindLiteral}
 use Rattle.format_words.proofs.WordKinds.{is-I, is-F, is-L, is-A, is-Aw, is-X, is-T, is-slash, is-literal}
 use Rattle.list_elements.specs.Elements as elements
 use Rattle.list_elements.specs.Elements.{textBytes}
@@ -33,7 +33,7 @@ use Rattle.list_elements.specs.declared.Value.{Value}
 use Rattle.sheet_walk.specs.Steps.{suits, isText}
 use Rattle.sheet_walk.specs.Promises.{Suited}
 use Rattle.sheet_walk.specs.Turns.{whatOf, Covering}
-use Rattle.sheet_walk.proofs.ItemLaws.{literal-length}
+use Rattle.sheet_walk.proofs.ItemLaws.{literal-length, covering-literal}
 use Rattle.write_passes.specs.Placed.{integerOf, decimalOf, logicalOf, spanOf, fieldCharacters, fieldStarred, fieldTooLarge, valueAt, charactersOf, starredOf}
 use Rattle.write_passes.specs.Passes.{whatTooLarge, putStars, Placeable}
 use Rattle.write_passes.proofs.ValueLaws.{integer-data, decimal-data, logical-data, text-data}
@@ -69,7 +69,7 @@ module _ {t area : List ℕ} {vs : List Value} {ks : List ℕ} {ms : List ℤ} {
     field-within = subst MetWithin e (p .on-walk .within)
 
   -- I
-  module _ (k : kindOf word ≡ 0) where
+  module _ (k : kindOf word ≡ kindI) where
     the-I : metOf t word ≡ Met.field (Field.I (firstOf word))
     the-I = is-I t word k
 
@@ -94,7 +94,7 @@ module _ {t area : List ℕ} {vs : List Value} {ks : List ℕ} {ms : List ℤ} {
     I-characters = rw (the-I, I-is)
 
   -- F
-  module _ (k : kindOf word ≡ 1) where
+  module _ (k : kindOf word ≡ kindF) where
     the-F : metOf t word ≡ Met.field (Field.F (firstOf word) (secondOf word))
     the-F = is-F t word k
 
@@ -135,7 +135,7 @@ module _ {t area : List ℕ} {vs : List Value} {ks : List ℕ} {ms : List ℤ} {
     F-characters = rw (the-F, F-units-is, F-places-is)
 
   -- only an F can be too large
-  pub other-large : (kindOf word ≡ 1 → ⊥) → whatTooLarge vs (whatOf (metOf t word) i) ≡ false
+  pub other-large : (kindOf word ≡ kindF → ⊥) → whatTooLarge vs (whatOf (metOf t word) i) ≡ false
   unfolding fieldTooLarge
   other-large n = go (kindOf word) refl
     where
@@ -151,7 +151,7 @@ module _ {t area : List ℕ} {vs : List Value} {ks : List ℕ} {ms : List ℤ} {
       go (suc (suc (suc (suc (suc (suc (suc (suc k)))))))) e = rw (is-literal t word (omega arith))
 
   -- L
-  module _ (k : kindOf word ≡ 2) where
+  module _ (k : kindOf word ≡ kindL) where
     the-L : metOf t word ≡ Met.field (Field.L (firstOf word))
     the-L = is-L t word k
 
@@ -200,7 +200,7 @@ module _ {t area : List ℕ} {vs : List Value} {ks : List ℕ} {ms : List ℤ} {
     pub unstarred : starredOf vs w (whatOf (metOf t word) i) ≡ false
     pub is : charactersOf area vs w (whatOf (metOf t word) i) ≡ textField w (take (getD ks i 0 / 4) (drop (getD ds i 0) area))
 
-  A-put : kindOf word ≡ 3 → TextPut
+  A-put : kindOf word ≡ kindA → TextPut
   unfolding fieldCharacters fieldStarred
   A-put k =
       let e = is-A t word k in
@@ -212,7 +212,7 @@ module _ {t area : List ℕ} {vs : List Value} {ks : List ℕ} {ms : List ℤ} {
         is = text-characters Field.A e (λ x. refl) (λ m x. refl) (λ m x. refl);
       }
 
-  Aw-put : kindOf word ≡ 4 → TextPut
+  Aw-put : kindOf word ≡ kindAw → TextPut
   unfolding fieldCharacters fieldStarred
   Aw-put k =
       let e = is-Aw t word k in
@@ -225,21 +225,14 @@ module _ {t area : List ℕ} {vs : List Value} {ks : List ℕ} {ms : List ℤ} {
         is = text-characters f e (λ x. refl) (λ m x. refl) (λ m x. refl);
       }
 
-  pub text-put : (kindOf word ≡ 3) ⊎ (kindOf word ≡ 4) → TextPut
+  pub text-put : (kindOf word ≡ kindA) ⊎ (kindOf word ≡ kindAw) → TextPut
   text-put (inl k) = A-put k
   text-put (inr k) = Aw-put k
 
-  -- a literal: no other item covers columns
-  pub is-covering : (kindOf word ≡ 5 → ⊥) × (kindOf word ≡ 6 → ⊥) × (kindOf word ≡ 7 → ⊥)
-  is-covering = (
-    (λ e. subst (λ x. Covering (map elements.kindOf vs) x i w) (is-X t word e) (p .on-walk .covers)),
-    (λ e. subst (λ x. Covering (map elements.kindOf vs) x i w) (is-T t word e) (p .on-walk .covers)),
-    (λ e. subst (λ x. Covering (map elements.kindOf vs) x i w) (is-slash t word e) (p .on-walk .covers)),
-  )
-
-  module _ (k : 4 < kindOf word) where
-    high : 7 < kindOf word
-    high = let c = is-covering in omega (arith, c .0, c .1, c .2)
+  -- a literal
+  module _ (k : kindAw < kindOf word) where
+    high : kindLiteral ≤ kindOf word
+    high = covering-literal t (map elements.kindOf vs) word i w (p .on-walk .covers) k
 
     the-literal : metOf t word ≡ Met.literal (take (secondOf word) (drop (firstOf word) t))
     the-literal = is-literal t word high
@@ -250,7 +243,7 @@ module _ {t area : List ℕ} {vs : List Value} {ks : List ℕ} {ms : List ℤ} {
     pub literal-inside : firstOf word + w ≤ length t
     unfolding reach
     literal-inside =
-        let e : kindOf word ≡ 8 = let g = p .on-walk .sound .0 in let h = high in omega arith in
+        let e : kindOf word ≡ kindLiteral = let g = p .on-walk .sound .0 in let h = high in omega arith in
         let r : firstOf word + secondOf word ≤ length t = rw e at (p .on-walk .sound .1) in
         rw literal-wide r
 

@@ -42,7 +42,7 @@ pub record Placeable (t area : List ℕ) (vs : List Value) (kinds : List ℕ) (a
   pub good : firstBad area 0 vs ≡ Good
 
 -- for some list
-pub record Checkable (amounts : List ℤ) (details : List ℕ) (word i : ℕ) : Type 0 where
+pub record SomePlaceable (amounts : List ℤ) (details : List ℕ) (word i : ℕ) : Type 0 where
   pub t : List ℕ
   pub area : List ℕ
   pub vs : List Value
@@ -56,7 +56,7 @@ pub record Placed (t area : List ℕ) (vs : List Value) (kinds : List ℕ) (amou
   pub small : whatTooLarge vs (whatOf (metOf t word) i) ≡ false
 
 -- for some list of values
-pub record Puttable (t area kinds : List ℕ) (amounts : List ℤ) (details : List ℕ) (word i w : ℕ) : Type 0 where
+pub record SomePlaced (t area kinds : List ℕ) (amounts : List ℤ) (details : List ℕ) (word i w : ℕ) : Type 0 where
   pub vs : List Value
   pub placed : Placed t area vs kinds amounts details word i w
 
@@ -69,7 +69,7 @@ pub record Ready (t area : List ℕ) (vs : List Value) (words kinds : List ℕ) 
   pub good : firstBad area 0 vs ≡ Good
 
 -- for some characters, area and list of values
-pub record Readied (words kinds : List ℕ) (amounts : List ℤ) (details : List ℕ) (rs : Records) : Type 0 where
+pub record SomeReady (words kinds : List ℕ) (amounts : List ℤ) (details : List ℕ) (rs : Records) : Type 0 where
   pub t : List ℕ
   pub area : List ℕ
   pub vs : List Value
@@ -82,7 +82,7 @@ pub record Passed (t area : List ℕ) (vs : List Value) (words : List ℕ) (back
   pub accepts : judged vs (walk (sheetOf t words back kinds rs)) ≡ accepted n
 
 -- for some list of values
-pub record Passable (t area words : List ℕ) (back : ℕ) (kinds : List ℕ) (amounts : List ℤ) (details : List ℕ) (rs : Records) : Type 0 where
+pub record SomePassed (t area words : List ℕ) (back : ℕ) (kinds : List ℕ) (amounts : List ℤ) (details : List ℕ) (rs : Records) : Type 0 where
   pub vs : List Value
   pub passed : Passed t area vs words back kinds amounts details rs
 

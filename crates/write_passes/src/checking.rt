@@ -16,7 +16,7 @@ ghost use Rattle.list_elements.specs.declared.Value.{Value};
 ghost use Rattle.sheet_walk.specs.Walk.{walk};
 ghost use Rattle.sheet_walk.specs.Turns.{sheetOf};
 ghost use Rattle.write_passes.specs.Placed.{judged};
-ghost use Rattle.write_passes.specs.Passes.{Ready, Readied, endingOf};
+ghost use Rattle.write_passes.specs.Passes.{Ready, SomeReady, endingOf};
 
 pub fn check_pass(
     words: &[u64],
@@ -26,7 +26,7 @@ pub fn check_pass(
     details: &[usize],
     rs: Records,
 ) -> Ending
-    requires { ⌜ Readied (now words) (now kinds) (now amounts) (now details) rs ⌝ }
+    requires { ⌜ SomeReady (now words) (now kinds) (now amounts) (now details) rs ⌝ }
     ensures { λ r. ⌜ ((t area : List ℕ) (vs : List Value) → Ready t area vs (now (words .entry)) (now (kinds .entry)) (now (amounts .entry)) (now (details .entry)) rs → r ≡ endingOf (judged vs (walk (sheetOf t (now (words .entry)) back (now (kinds .entry)) rs)))) ⌝ }
 {
     let part = has_field(words, back);

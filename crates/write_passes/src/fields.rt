@@ -22,7 +22,7 @@ ghost use Rattle.format_words.specs.Words.{metOf};
 ghost use Rattle.list_elements.specs.declared.Value.{Value};
 ghost use Rattle.sheet_walk.specs.Turns.{whatOf};
 ghost use Rattle.write_passes.specs.Placed.{charactersOf, starredOf};
-ghost use Rattle.write_passes.specs.Passes.{whatTooLarge, putStars, Placeable, Placed, Checkable, Puttable};
+ghost use Rattle.write_passes.specs.Passes.{whatTooLarge, putStars, Placeable, Placed, SomePlaceable, SomePlaced};
 
 // Whether a decimal was starred.
 fn is_starred(put: Put) -> bool
@@ -37,7 +37,7 @@ fn is_starred(put: Put) -> bool
 
 // Whether the value of element i is too large for the field of a word: only a decimal's can be.
 pub fn too_large(word: u64, amounts: &[i64], details: &[usize], i: usize) -> bool
-    requires { ⌜ Checkable (now amounts) (now details) word i ⌝ }
+    requires { ⌜ SomePlaceable (now amounts) (now details) word i ⌝ }
     ensures { λ r. ⌜ ((t area : List ℕ) (vs : List Value) (ks : List ℕ) (w : ℕ) → Placeable t area vs ks (now (amounts .entry)) (now (details .entry)) word i w → r ≡ whatTooLarge vs (whatOf (metOf t word) i)) ⌝ }
 {
     if word % KIND_BASE == KIND_F {
@@ -60,7 +60,7 @@ pub fn put(
     amounts: &[i64],
     details: &[usize],
 ) -> bool
-    requires { ⌜ (at + width ≤ length (now dst)) × Puttable (now chars) (now area) (now kinds) (now amounts) (now details) word i width ⌝ }
+    requires { ⌜ (at + width ≤ length (now dst)) × SomePlaced (now chars) (now area) (now kinds) (now amounts) (now details) word i width ⌝ }
     ensures stars { λ r. ⌜ ((vs : List Value) → Placed (now (chars .entry)) (now (area .entry)) vs (now (kinds .entry)) (now (amounts .entry)) (now (details .entry)) word i width → r ≡ starredOf vs width (whatOf (metOf (now (chars .entry)) word) i)) ⌝ }
     ensures bytes { λ r. ⌜ ((vs : List Value) → Placed (now (chars .entry)) (now (area .entry)) vs (now (kinds .entry)) (now (amounts .entry)) (now (details .entry)) word i width → now (dst .exit) ≡ splice (now (dst .entry)) at (charactersOf (now (area .entry)) vs width (whatOf (metOf (now (chars .entry)) word) i))) ⌝ }
 {
@@ -85,7 +85,7 @@ pub fn put(
                 width,
                 area,
                 details[i],
-                (kinds[i] / list_elements::KIND_BASE) as usize,
+                (kinds[i] / list_elements::LENGTH_BASE) as usize,
             );
             false
         }

@@ -16,7 +16,7 @@ ghost use Rattle.sheet_walk.specs.Walk.{walk};
 ghost use Rattle.sheet_walk.specs.Laid.{laid};
 ghost use Rattle.sheet_walk.specs.Turns.{sheetOf};
 ghost use Rattle.write_passes.specs.Placed.{characters, starredIn};
-ghost use Rattle.write_passes.specs.Passes.{Passable, Passed};
+ghost use Rattle.write_passes.specs.Passes.{SomePassed, Passed};
 
 // Puts what the walk covers, in order; how many fields are starred.
 pub fn lay_pass(
@@ -30,7 +30,7 @@ pub fn lay_pass(
     details: &[usize],
     rs: Records,
 ) -> usize
-    requires { ⌜ (rs .count * rs .width ≤ length (now dst)) × Passable (now chars) (now area) (now words) back (now kinds) (now amounts) (now details) rs ⌝ }
+    requires { ⌜ (rs .count * rs .width ≤ length (now dst)) × SomePassed (now chars) (now area) (now words) back (now kinds) (now amounts) (now details) rs ⌝ }
     ensures stars { λ r. ⌜ ((vs : List Value) → Passed (now (chars .entry)) (now (area .entry)) vs (now (words .entry)) back (now (kinds .entry)) (now (amounts .entry)) (now (details .entry)) rs → r ≡ starredIn vs (walk (sheetOf (now (chars .entry)) (now (words .entry)) back (now (kinds .entry)) rs))) ⌝ }
     ensures bytes { λ r. ⌜ ((vs : List Value) → Passed (now (chars .entry)) (now (area .entry)) vs (now (words .entry)) back (now (kinds .entry)) (now (amounts .entry)) (now (details .entry)) rs → now (dst .exit) ≡ laid (rs .width) (characters (now (area .entry)) vs) (walk (sheetOf (now (chars .entry)) (now (words .entry)) back (now (kinds .entry)) rs)) (now (dst .entry))) ⌝ }
 {

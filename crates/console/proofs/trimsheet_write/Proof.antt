@@ -4,7 +4,7 @@ use borrow.Author.Needs.{needs}
 use Rattle.console.proofs.trimsheet_write.Statement.{statement}
 use Rattle.console.proofs.trimsheet_write.Tie as tie
 use native.Mathlib.Omega.{arith}
-use mathlib.Core.Path.{_≡_, ap, _∙_}
+use mathlib.Core.Path.{ap, _∙_}
 use Prim.Native.Nat.{_≤_}
 use lib.ListN.{length}
 use Rattle.list_elements.proofs.LimitLaws.{from-bits}

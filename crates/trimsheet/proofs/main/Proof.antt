@@ -3,8 +3,7 @@
 use borrow.Author.Needs.{needs}
 use Rattle.trimsheet.proofs.main.Statement.{statement}
 use Rattle.trimsheet.proofs.main.Tie as tie
-use native.Mathlib.Omega.{arith}
-use mathlib.Core.Path.{_≡_, sym}
+use mathlib.Core.Path.{sym}
 use Prim.Native.Nat.{_≤_}
 use lib.ListN.{length, replicate, length-replicate}
 use Rattle.sheet_text.proofs.PutLaws.{output-room}

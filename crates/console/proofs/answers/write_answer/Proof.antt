@@ -3,13 +3,11 @@
 use borrow.Author.Needs.{needs}
 use Rattle.console.proofs.answers.write_answer.Statement.{statement}
 use Rattle.console.proofs.answers.write_answer.Tie as tie
-use native.Mathlib.Omega.{arith}
 use mathlib.Core.Path.{_∙_}
 use mir.Facts.{toZ-pos}
 use mir.Syntax.{w64}
 use Prim.Native.Nat.{_^_, _<_}
 use Rattle.list_elements.proofs.LimitLaws.{from-bits}
-use Rattle.sheet_walk.specs.Answers.{answerRecords}
 use Rattle.console.proofs.HostLaws.{number-small}
 
 enum-known-answer : tie.Need-enum-known-answer

@@ -20,7 +20,7 @@ line-end-requires : tie.Need-line-end-requires Inv-loop μ-loop
 line-end-requires c κs = omega arith
 
 sub-show-line : tie.Need-sub-show-line Inv-loop μ-loop
-sub-show-line c = c .line-end .ensures .0
+sub-show-line c = omega (arith, c .line-end .ensures .0)
 
 part-show-line-start : tie.Need-part-show-line-start Inv-loop μ-loop
 part-show-line-start c = search needs

@@ -2,7 +2,7 @@
 -- Assumes nothing.
 use native.Mathlib.Omega.{arith}
 use Rattle.format_items.proofs.MetLaws.{met-is-size}
-use Rattle.format_check.proofs.CheckSteps.{items-fit}
+use Rattle.format_load.proofs.ItemRows.{items-fit}
 use borrow.Author.Needs.{needs}
 use Rattle.format_cases.proofs.runs.show_items.Statement.{statement}
 use Rattle.format_cases.proofs.runs.show_items.Tie as tie

@@ -1,14 +1,15 @@
 -- `format_check::check::check` meets its contract.
 -- Assumes nothing.
-use mathlib.Core.Path.{ap}
+use mathlib.Core.Path.{sym, ap}
 use Rattle.format_check.specs.Checked.{answer}
-use Rattle.format_check.proofs.CheckSteps.{answered, outcome-long}
+use Rattle.format_grammar.proofs.Promises.{outcome-long}
+use Rattle.format_check.proofs.CheckSteps.{answered}
 use borrow.Author.Needs.{needs}
 use Rattle.format_check.proofs.check.check.Statement.{statement}
 use Rattle.format_check.proofs.check.check.Tie as tie
 
 returns : tie.Need-returns
-returns c = answered _ _ (ap answer (outcome-long _ (c .if1 .taken)))
+returns c = answered _ _ (ap answer (sym (outcome-long _ (c .if1 .taken))))
 
 check-short-requires : tie.Need-check-short-requires
 check-short-requires c κs = search needs

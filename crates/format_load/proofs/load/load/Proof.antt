@@ -1,15 +1,15 @@
 -- `format_load::load::load` meets its contract.
 -- Assumes nothing.
-use mathlib.Core.Path.{sym}
 use native.Mathlib.Omega.{arith}
-use Rattle.format_check.proofs.CheckSteps.{outcome-long, items-fit}
+use Rattle.format_grammar.proofs.Promises.{outcome-long}
+use Rattle.format_load.proofs.ItemRows.{items-fit}
 use Rattle.format_load.proofs.LoadLaws.{run-held}
 use borrow.Author.Needs.{needs}
 use Rattle.format_load.proofs.load.load.Statement.{statement}
 use Rattle.format_load.proofs.load.load.Tie as tie
 
 returns : tie.Need-returns
-returns c = sym (outcome-long _ (c .if1 .taken))
+returns c = outcome-long _ (c .if1 .taken)
 
 returns-2 : tie.Need-returns-2
 returns-2 c = search needs

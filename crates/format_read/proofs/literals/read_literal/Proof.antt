@@ -1,9 +1,12 @@
 -- `format_read::literals::read_literal` meets its contract.
 -- Assumes nothing.
+use mathlib.Core.Path.{sym, _∙_}
 use native.Mathlib.Omega.{arith}
+use borrow.Author.Needs.{needs}
+use borrow.Author.Tests.{not-true, not-false}
 use Prim.Native.Nat.{_-_}
 use lib.ListN.{length}
-use Rattle.format_read.proofs.LiteralSteps.{LiteralSoFar, literal-none, literal-plain, literal-low, literal-high, literal-cut, literal-double, literal-empty, literal-all, literal-open}
+use Rattle.format_read.proofs.LiteralSteps.{LiteralSoFar, literal-none, literal-plain, literal-odd, literal-cut, literal-double, literal-empty, literal-all, literal-open}
 use Rattle.format_read.proofs.literals.read_literal.Statement.{statement}
 use Rattle.format_read.proofs.literals.read_literal.Tie as tie
 
@@ -14,7 +17,7 @@ abbrev μ-loop : tie.MeasureT-loop
 μ-loop text at m chars₀ c p₀ n₀ chars p n = length text - p
 
 loop-holds : tie.Need-loop-holds Inv-loop μ-loop
-loop-holds c = literal-none _ _ _ _ _ (c .pre .0) (c .pre .1)
+loop-holds c = literal-none _ _ _ _ _ (c .before .before .pre .0) (c .before .before .pre .1)
 
 shared-slice-read-b : tie.Need-shared-slice-read-b Inv-loop μ-loop
 shared-slice-read-b c = omega arith
@@ -70,17 +73,14 @@ loop-less c = omega arith
 loop-again : tie.Need-loop-again Inv-loop μ-loop
 loop-again c = literal-double (c .before .before .before .before .before .before .loop .inv) (c .before .before .before .before .before .loop-test .taken) (c .before .before .before .if1 .taken) (omega (arith, c .before .before .if2 .left)) (c .if3 .left) (omega (arith, c .before .before .before .before .before .before .loop .inv .fewer, c .before .before .before .before .before .before .loop .inv .long))
 
+is-printable-requires : tie.Need-is-printable-requires Inv-loop μ-loop
+is-printable-requires c κs = search needs
+
 same-length-4 : tie.Need-same-length-4 Inv-loop μ-loop
-same-length-4 c = c .before .before .before .before .loop .inv .long
+same-length-4 c = c .before .before .before .before .before .loop .inv .long
 
 returns-4 : tie.Need-returns-4 Inv-loop μ-loop
-returns-4 c = literal-low (c .before .before .before .before .loop .inv) (c .before .before .before .loop-test .taken) (c .before .if1 .left) (c .if5 .taken)
-
-same-length-5 : tie.Need-same-length-5 Inv-loop μ-loop
-same-length-5 c = c .before .before .before .before .before .loop .inv .long
-
-returns-5 : tie.Need-returns-5 Inv-loop μ-loop
-returns-5 c = literal-high (c .before .before .before .before .before .loop .inv) (c .before .before .before .before .loop-test .taken) (c .before .before .if1 .left) (c .before .if5 .left) (c .if6 .taken)
+returns-4 c = literal-odd (c .before .before .before .before .before .loop .inv) (c .before .before .before .before .loop-test .taken) (c .before .before .if1 .left) (sym (c .before .is-printable .ensures) ∙ not-true _ (c .if5 .taken))
 
 slice-write-chars-2 : tie.Need-slice-write-chars-2 Inv-loop μ-loop
 slice-write-chars-2 c = omega (arith, c .before .before .before .before .before .loop .inv .fewer, c .before .before .before .before .before .loop .inv .long)
@@ -95,13 +95,13 @@ loop-less-2 : tie.Need-loop-less-2 Inv-loop μ-loop
 loop-less-2 c = omega arith
 
 loop-again-2 : tie.Need-loop-again-2 Inv-loop μ-loop
-loop-again-2 c = literal-plain (c .before .before .before .before .before .loop .inv) (c .before .before .before .before .loop-test .taken) (c .before .before .if1 .left) (c .before .if5 .left) (c .if6 .left) (omega (arith, c .before .before .before .before .before .loop .inv .fewer, c .before .before .before .before .before .loop .inv .long))
+loop-again-2 c = literal-plain (c .before .before .before .before .before .loop .inv) (c .before .before .before .before .loop-test .taken) (c .before .before .if1 .left) (sym (c .before .is-printable .ensures) ∙ not-false _ (c .if5 .left)) (omega (arith, c .before .before .before .before .before .loop .inv .fewer, c .before .before .before .before .before .loop .inv .long))
 
-same-length-6 : tie.Need-same-length-6 Inv-loop μ-loop
-same-length-6 c = c .before .loop .inv .long
+same-length-5 : tie.Need-same-length-5 Inv-loop μ-loop
+same-length-5 c = c .before .loop .inv .long
 
-returns-6 : tie.Need-returns-6 Inv-loop μ-loop
-returns-6 c = literal-open (c .before .loop .inv) (c .loop-test .left)
+returns-5 : tie.Need-returns-5 Inv-loop μ-loop
+returns-5 c = literal-open (c .before .loop .inv) (c .loop-test .left)
 
 pub read-literal-spec : {M : Type 1} → statement M
 read-literal-spec =
@@ -128,14 +128,13 @@ read-literal-spec =
     add-p
     loop-less
     loop-again
+    is-printable-requires
     same-length-4
     returns-4
-    same-length-5
-    returns-5
     slice-write-chars-2
     add-n-2
     add-p-2
     loop-less-2
     loop-again-2
-    same-length-6
-    returns-6)
+    same-length-5
+    returns-5)

@@ -3,8 +3,7 @@
 use borrow.Author.Needs.{needs}
 use Rattle.list_text.proofs.elements.element_on.Statement.{statement}
 use Rattle.list_text.proofs.elements.element_on.Tie as tie
-use native.Mathlib.Omega.{arith}
-use mathlib.Core.Path.{sym, _∙_}
+use mathlib.Core.Path.{_∙_}
 use mathlib.Core.Path.{ap}
 use Rattle.list_text.specs.ElementLines.{integerLine, decimalLine, logicalLine}
 use Rattle.list_text.proofs.ElementLaws.{part-rest, element-unblank, element-short, element-integer, element-decimal, element-logical, element-text, element-other}

@@ -3,7 +3,7 @@
 use borrow.Author.Needs.{needs}
 use Rattle.list_text.proofs.elements.logical_line.Statement.{statement}
 use Rattle.list_text.proofs.elements.logical_line.Tie as tie
-use mathlib.Core.Path.{sym, _∙_}
+use mathlib.Core.Path.{_∙_}
 use Rattle.list_text.proofs.ElementLaws.{logical-long, logical-true, logical-false, logical-wrong}
 
 wrong-requires : tie.Need-wrong-requires

@@ -2,7 +2,6 @@
 -- Assumes nothing.
 use Rattle.list_text.proofs.lines.line_end.Statement.{statement}
 use Rattle.list_text.proofs.lines.line_end.Tie as tie
-use borrow.Author.Needs.{needs}
 use native.Mathlib.Omega.{arith}
 use Prim.Native.Nat.{_-_}
 use lib.ListN.{length}

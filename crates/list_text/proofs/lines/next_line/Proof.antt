@@ -1,10 +1,9 @@
 -- `list_text::lines::next_line` meets its contract.
 -- Assumes nothing.
+use native.Mathlib.Omega.{arith}
 use borrow.Author.Needs.{needs}
 use Rattle.list_text.proofs.lines.next_line.Statement.{statement}
 use Rattle.list_text.proofs.lines.next_line.Tie as tie
-use native.Mathlib.Omega.{arith}
-use lib.ListN.{drop-of-length-le}
 use Rattle.list_text.proofs.LineLaws.{past-end}
 
 add-result : tie.Need-add-result
@@ -14,7 +13,7 @@ returns : tie.Need-returns
 returns c = search needs
 
 returns-2 : tie.Need-returns-2
-returns-2 c = (past-end _ _ (c .if1 .left), c .before .pre)
+returns-2 c = (past-end _ _ (c .if1 .left), c .before .pre, omega arith)
 
 pub next-line-spec : {M : Type 1} → statement M
 next-line-spec = tie.close (tie.spec add-result returns returns-2)

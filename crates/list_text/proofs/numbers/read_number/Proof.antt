@@ -3,7 +3,6 @@
 use borrow.Author.Needs.{needs}
 use Rattle.list_text.proofs.numbers.read_number.Statement.{statement}
 use Rattle.list_text.proofs.numbers.read_number.Tie as tie
-use native.Mathlib.Omega.{arith}
 use mathlib.Core.Path.{sym, _∙_}
 use Rattle.list_elements.proofs.LimitLaws.{from-bits}
 use mathlib.Core.Bool.{true, false}

@@ -2,10 +2,10 @@
 -- Assumes nothing.
 use mathlib.Core.Path.{_≡_, refl, sym}
 use native.Mathlib.Omega.{arith}
-use Prim.Native.Nat.{ℕ, zero, suc, _/_, _<_}
+use Prim.Native.Nat.{ℕ, _/_, _≤_}
 use Rattle.format_items.specs.Items.{Field}
-use Rattle.format_words.specs.Words.{kindOf, firstOf, secondOf}
-use Rattle.format_words.proofs.WordKinds.{is-I, is-F, is-L, is-A, is-Aw, is-X, is-T, is-slash, is-literal}
+use Rattle.format_words.specs.Words.{kindOf, firstOf, secondOf, kindI, kindF, kindL, kindA, kindAw, kindX, kindT, kindSlash, kindLiteral}
+use Rattle.format_words.proofs.WordKinds.{is-I, is-F, is-L, is-A, is-Aw, is-X, is-T, is-slash, is-literal, Kinds, kinds}
 use Rattle.sheet_walk.specs.Steps.{literal, step}
 use Rattle.sheet_walk.proofs.ItemLaws.{literal-length}
 use borrow.Author.Needs.{needs}
@@ -13,16 +13,21 @@ use Rattle.sheet_walk.proofs.items.meet.Statement.{statement}
 use Rattle.sheet_walk.proofs.items.meet.Tie as tie
 
 -- none of the kinds before a literal's
-none-of : (n : ℕ) → (((((((Unit {0} × (n ≡ 0 → ⊥)) × (n ≡ 1 → ⊥)) × (n ≡ 2 → ⊥)) × (n ≡ 3 → ⊥)) × (n ≡ 4 → ⊥)) × (n ≡ 5 → ⊥)) × (n ≡ 6 → ⊥)) × (n ≡ 7 → ⊥) → 7 < n
-none-of zero r = absurd (r .0 .0 .0 .0 .0 .0 .0 .1 refl)
-none-of (suc zero) r = absurd (r .0 .0 .0 .0 .0 .0 .1 refl)
-none-of (suc (suc zero)) r = absurd (r .0 .0 .0 .0 .0 .1 refl)
-none-of (suc (suc (suc zero))) r = absurd (r .0 .0 .0 .0 .1 refl)
-none-of (suc (suc (suc (suc zero)))) r = absurd (r .0 .0 .0 .1 refl)
-none-of (suc (suc (suc (suc (suc zero))))) r = absurd (r .0 .0 .1 refl)
-none-of (suc (suc (suc (suc (suc (suc zero)))))) r = absurd (r .0 .1 refl)
-none-of (suc (suc (suc (suc (suc (suc (suc zero))))))) r = absurd (r .1 refl)
-none-of (suc (suc (suc (suc (suc (suc (suc (suc n)))))))) r = omega arith
+none-of : (w : ℕ)
+    → (((((((Unit {0} × (kindOf w ≡ kindI → ⊥)) × (kindOf w ≡ kindF → ⊥)) × (kindOf w ≡ kindL → ⊥)) × (kindOf w ≡ kindA → ⊥)) × (kindOf w ≡ kindAw → ⊥)) × (kindOf w ≡ kindX → ⊥)) × (kindOf w ≡ kindT → ⊥)) × (kindOf w ≡ kindSlash → ⊥)
+    → kindLiteral ≤ kindOf w
+none-of w r = go (kinds w)
+  where
+    go : Kinds w → kindLiteral ≤ kindOf w
+    go (Kinds.I e) = absurd (r .0 .0 .0 .0 .0 .0 .0 .1 e)
+    go (Kinds.F e) = absurd (r .0 .0 .0 .0 .0 .0 .1 e)
+    go (Kinds.L e) = absurd (r .0 .0 .0 .0 .0 .1 e)
+    go (Kinds.A e) = absurd (r .0 .0 .0 .0 .1 e)
+    go (Kinds.Aw e) = absurd (r .0 .0 .0 .1 e)
+    go (Kinds.X e) = absurd (r .0 .0 .1 e)
+    go (Kinds.T e) = absurd (r .0 .1 e)
+    go (Kinds.slash e) = absurd (r .1 e)
+    go (Kinds.literal h) = h
 
 field-requires : tie.Need-field-requires
 field-requires c κs = search needs
@@ -88,7 +93,7 @@ returns-8 c = λ t h. let w = c .before .before .before .args .word in rw (is-sl
 
 returns-9 : tie.Need-returns-9
 unfolding step
-returns-9 c = λ t h. let w = c .before .before .before .args .word in let k : 7 < kindOf w = none-of (kindOf w) (c .before .match .rest) in let e : secondOf w ≡ w / 16 / 1024 = omega arith in rw (is-literal t w k, literal-length t w h k, e) (c .cover .ensures (literal _))
+returns-9 c = λ t h. let w = c .before .before .before .args .word in let k : kindLiteral ≤ kindOf w = none-of w (c .before .match .rest) in let e : secondOf w ≡ w / 16 / 1024 = omega arith in rw (is-literal t w k, literal-length t w h k, e) (c .cover .ensures (literal _))
 
 pub meet-spec : {M : Type 1} → statement M
 meet-spec =

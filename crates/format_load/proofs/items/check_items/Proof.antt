@@ -1,10 +1,10 @@
--- `format_check::items::check_items` meets its contract.
+-- `format_load::items::check_items` meets its contract.
 -- Assumes nothing.
 use native.Mathlib.Omega.{arith}
-use Rattle.format_check.proofs.CheckSteps.{row-grammar, row-range, row-size, row-none, held}
+use Rattle.format_load.proofs.ItemRows.{row-grammar, row-range, row-size, row-none, held}
 use borrow.Author.Needs.{needs}
-use Rattle.format_check.proofs.items.check_items.Statement.{statement}
-use Rattle.format_check.proofs.items.check_items.Tie as tie
+use Rattle.format_load.proofs.items.check_items.Statement.{statement}
+use Rattle.format_load.proofs.items.check_items.Tie as tie
 
 read-format-requires : tie.Need-read-format-requires
 read-format-requires c κs = search needs

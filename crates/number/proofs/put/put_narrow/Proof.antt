@@ -1,9 +1,9 @@
--- `field_written::parts::put_narrow` meets its contract.
+-- `number::put::put_narrow` meets its contract.
 -- Assumes nothing.
 use native.Mathlib.Omega.{arith}
-use Rattle.field_written.proofs.Making.{Made, made-none, made-more, made-all}
-use Rattle.field_written.proofs.parts.put_narrow.Statement.{statement}
-use Rattle.field_written.proofs.parts.put_narrow.Tie as tie
+use Rattle.number.proofs.Making.{Made, made-none, made-more, made-all}
+use Rattle.number.proofs.put.put_narrow.Statement.{statement}
+use Rattle.number.proofs.put.put_narrow.Tie as tie
 
 abbrev Inv-loop : tie.InvT-loop
 Inv-loop dst₀ at k m rest₀ i₀ dst rest i = Made dst₀ at k m dst rest i

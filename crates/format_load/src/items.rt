@@ -9,7 +9,7 @@ use format_run::size::size_of;
 ghost use Prim.Native.Nat.{_≤_};
 ghost use lib.ListN.{length};
 ghost use Rattle.format_items.specs.Refusals.{longestFormat};
-ghost use Rattle.format_check.specs.Checked.{itemsChecked};
+ghost use Rattle.format_load.specs.ItemsChecked.{itemsChecked};
 
 // The items of a text, as entries and characters; refused where the text is not of the grammar, a number is out of its
 // range, or the size is too large.
