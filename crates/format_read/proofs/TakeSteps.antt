@@ -18,7 +18,7 @@ use Rattle.format_grammar.proofs.ReadLaws.{read-step}
 use Rattle.format_words.specs.Words.{word, kindOf, metOf, reach, entry, kindGroup, kindLiteral}
 use Rattle.format_words.specs.Held.{First, Single, Holds}
 use Rattle.format_words.proofs.WordLaws.{kind-word, word-entry, repeat-entry, met-literal, reach-literal, reach-other}
-use Rattle.format_words.proofs.HeldLaws.{drop-take}
+use Rattle.buffer.proofs.Splicing.{drop-take}
 use Rattle.format_read.specs.Steps.{outsideAfter, ItemRead, LiteralFound, Room, Took, Stuck}
 use Rattle.format_read.specs.declared.Position.{Position}
 

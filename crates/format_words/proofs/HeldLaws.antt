@@ -1,13 +1,13 @@
 -- Entries that hold items: after one another, and kept when others are written.
 -- Assumes nothing.
 use mathlib.Core.Path.{_≡_, sym, ap, _∙_, subst}
-use mathlib.Core.List.{List, [], _∷_}
-use Prim.Native.Nat.{ℕ, zero, suc, _+_, _<_, _≤_}
-use native.Mathlib.Nat.{zero-add, suc-add}
+use mathlib.Core.List.{List}
+use Prim.Native.Nat.{ℕ, _+_, _<_, _≤_}
 use native.Mathlib.Omega.{arith}
 use borrow.Author.Tests.{eq-eqb}
 use lib.ListN.{length, getD, take, drop}
-use lib.Seq.{take-take, take-nil}
+use lib.Seq.{take-take}
+use Rattle.buffer.proofs.Splicing.{drop-take}
 use Rattle.format_items.specs.Items.{times, Items, join}
 use Rattle.format_items.specs.Met.{Met}
 use Rattle.format_words.specs.Words.{kindOf, firstOf, secondOf, wordOf, metOf, reach, kindLiteral, kindGroup}
@@ -36,11 +36,6 @@ holds-join {ys} (Holds.single f i s h) k = Holds.single (first-join ys f) i s (h
 holds-join (Holds.group i g h j) k = Holds.group i g h (holds-join j k)
 
 -- ---- kept
-
-pub drop-take : (a b : ℕ) (s : List ℕ) → drop a (take (a + b) s) ≡ take b (drop a s)
-drop-take zero b s = rw (zero-add b)
-drop-take (suc a) b [] = rw (take-nil {A = ℕ} (suc a + b), take-nil {A = ℕ} b)
-drop-take (suc a) b (x ∷ s) = rw (suc-add a b) (drop-take a b s)
 
 -- the same characters up to c
 pub slice-kept : (a b c : ℕ) (t u : List ℕ) → a + b ≤ c → take c u ≡ take c t → take b (drop a u) ≡ take b (drop a t)

@@ -15,7 +15,7 @@ ghost use lib.IntN.{pos};
 ghost use lib.ListN.{length, take};
 ghost use Rattle.list_elements.specs.Elements.{values};
 ghost use Rattle.list_elements.specs.Limits.{mostElements, longestText, listCheck};
-ghost use Rattle.list_elements.specs.Apart.{kindNumber, amount, detail, Apart, usableCount};
+ghost use Rattle.list_elements.specs.Apart.{kindNumber, amount, detail, Apart, usableCount, SomeGood};
 
 // A text's length is within its limits, so that the number is small.
 pub fn kind_number(v: Value) -> u64
@@ -116,4 +116,21 @@ pub fn take_apart(
         return ListCheck::Bad { place: List::MOST };
     }
     ListCheck::Good
+}
+
+// The kinds, amounts and details of a list that is good, which is not tested again.
+pub fn set_apart(list: List, kinds: &mut [u64], amounts: &mut [i64], details: &mut [usize])
+    requires { ⌜ SomeGood list × (mostElements ≤ length (now kinds)) × (mostElements ≤ length (now amounts)) × (mostElements ≤ length (now details)) ⌝ }
+    ensures { λ r. ⌜ Apart (values list) (take (list .count) (now (kinds .exit))) (take (list .count) (now (amounts .exit))) (take (list .count) (now (details .exit))) ⌝ }
+{
+    let count = list.count;
+    let mut i: usize = 0;
+    while i < count {
+        let e = list.elements[i];
+        let v = e.value;
+        kinds[i] = kind_number(v);
+        amounts[i] = amount_of(v);
+        details[i] = detail_of(v);
+        i += 1;
+    }
 }

@@ -4,3 +4,4 @@ pub mod ElementLaws
 pub mod ReadLaws
 pub mod Longest
 pub mod ElementWords
+pub mod CutLines

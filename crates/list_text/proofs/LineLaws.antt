@@ -3,7 +3,7 @@
 use mathlib.Core.Path.{_≡_, refl, sym, ap, _∙_}
 use mathlib.Core.Bool.{Bool, true, false, cond}
 use mathlib.Core.List.{List, [], _∷_}
-use Prim.Native.Nat.{ℕ, suc, _+_, _<_, _≤_}
+use Prim.Native.Nat.{ℕ, zero, suc, _+_, _<_, _≤_}
 use native.Mathlib.Nat.{not-suc-le-zero}
 use native.Mathlib.Numerals.{add-one}
 use native.Mathlib.Omega.{arith}
@@ -93,3 +93,15 @@ module _ {s : List ℕ} {from i : ℕ} (w : OnLine s from i) where
   on-end h =
       let e : firstLine (drop i s) ≡ [] = rw (drop-of-length-le s h) in
       (omega (arith, w .left, ap length e), w .bound)
+
+-- ---- the line of the first bytes
+
+pub line-cut : (m : ℕ) (s : List ℕ) → firstLine (take m s) ≡ take m (firstLine s)
+unfolding firstLine
+line-cut zero s = refl
+line-cut (suc m) [] = refl
+line-cut (suc m) (b ∷ s) = go (line-cut m s) (eqb b lineFeed)
+  where
+    go : firstLine (take m s) ≡ take m (firstLine s) → (t : Bool) → cond t [] (b ∷ firstLine (take m s)) ≡ take (suc m) (cond t [] (b ∷ firstLine s))
+    go r true = refl
+    go r false = ap (λ (l : List ℕ). b ∷ l) r

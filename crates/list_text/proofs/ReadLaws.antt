@@ -23,7 +23,7 @@ use Rattle.list_elements.proofs.Placing.{Placing, placing-none, placing-more, p
 use Rattle.list_text.specs.Lines.{firstLine, afterLine, lines}
 use Rattle.list_text.specs.ElementLines.{elementOn}
 use Rattle.list_text.specs.ListText.{elementsFrom, lineValues, lineCheck, lineList}
-use Rattle.list_text.proofs.LineLaws.{after-is, line-is, lines-are}
+use Rattle.list_text.proofs.LineLaws.{after-is, lines-are}
 
 -- ---- what is left of a list of values
 
@@ -86,13 +86,6 @@ pub record Reading (s : List ℕ) (es : List Element) (n at : ℕ) : Type 0 wher
 pub reading-none : (s : List ℕ) → Reading s (emptyList .elements) 0 0
 unfolding lineValues
 reading-none s = record { few = omega arith; bound = omega arith; passed = record { before = λ ys. refl }; placed = placing-none; left = refl }
-
--- the element of a line, as a slice has it
-pub line-element : (s : List ℕ) (at : ℕ) {end : ℕ} {v : Value} → end ≡ at + length (firstLine (drop at s)) → v ≡ elementOn at (take (end - at) (drop at s))
-    → v ≡ elementOn at (firstLine (drop at s))
-line-element s at {end} e q =
-    let f : end - at ≡ length (firstLine (drop at s)) = omega arith in
-    q ∙ ap (elementOn at) (rw f (line-is (drop at s)))
 
 module _ {s : List ℕ} {es : List Element} {n at : ℕ} (r : Reading s es n at) where
   module _ (h : at < length s) where

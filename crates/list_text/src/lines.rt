@@ -1,7 +1,7 @@
 // The lines of a text.
 ghost use mathlib.Core.Path.{_≡_};
 ghost use Prim.Native.Nat.{_+_, _≤_, min};
-ghost use lib.ListN.{length, drop};
+ghost use lib.ListN.{length, take, drop};
 ghost use Rattle.list_text.specs.Lines.{firstLine};
 
 // Where the line ends that starts at `from`: at its line feed, or at the end of the text.
@@ -17,6 +17,17 @@ pub fn line_end(text: &[u8], from: usize) -> usize
         i += 1;
     }
     i
+}
+
+// The same, but at most `most` bytes on: no byte past them is looked at.
+pub fn line_end_within(text: &[u8], from: usize, most: usize) -> usize
+    requires { ⌜ from ≤ length (now text) ⌝ }
+    ensures { λ r. ⌜ (r ≡ from + length (firstLine (take most (drop from (now (text .entry)))))) × (r ≤ length (now (text .entry))) ⌝ }
+{
+    if text.len() - from <= most {
+        return line_end(text, from);
+    }
+    line_end(&text[..from + most], from)
 }
 
 // Where the next line starts, after a line's end.

@@ -1,15 +1,19 @@
 // A list text read: the public call.
 use crate::ListText;
 use crate::elements::element_on;
-use crate::lines::line_end;
+use crate::lines::line_end_within;
 use list_elements::Element;
 use list_elements::List;
 use list_elements::ListCheck;
+use list_elements::limits::LONGEST;
 use list_elements::limits::within_limits;
 ghost use mathlib.Core.Path.{_≡_};
 ghost use Rattle.list_elements.specs.Elements.{emptyList};
 ghost use Rattle.list_elements.specs.Limits.{checkNumber, checkPlace};
 ghost use Rattle.list_text.specs.ListText.{lineCheck, lineList};
+
+// The longest line of an element within its limits: A, a blank and the longest text.
+const LONGEST_LINE: usize = 2 + LONGEST;
 
 // Refused at this element: no values.
 fn refused(place: usize) -> ListText
@@ -21,7 +25,8 @@ fn refused(place: usize) -> ListText
     }
 }
 
-// The list of a list text, its texts as places in the text itself; or refusal 6. Any bytes.
+// The list of a list text, its texts as places in the text itself; or refusal 6. Any bytes. A line is read no further than it
+// takes to refuse it: whatever follows its first bytes, a longer one is outside the limits.
 pub fn read_list(text: &[u8]) -> ListText
     ensures checked { λ r. ⌜ r .check ≡ lineCheck (now (text .entry)) ⌝ }
     ensures list { λ r. ⌜ r .list ≡ lineList (now (text .entry)) ⌝ }
@@ -35,7 +40,7 @@ pub fn read_list(text: &[u8]) -> ListText
         if n == List::MOST {
             return refused(List::MOST);
         }
-        let end = line_end(text, at);
+        let end = line_end_within(text, at, LONGEST_LINE + 1);
         let value = element_on(at, &text[at..end]);
         if !within_limits(value, text) {
             return refused(n);

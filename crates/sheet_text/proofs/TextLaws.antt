@@ -1,20 +1,19 @@
 -- Writing from a list text.
 -- Assumes nothing.
-use mathlib.Core.Path.{_≡_, refl, sym, ap, subst, _∙_}
+use mathlib.Core.Path.{_≡_, refl, sym, ap, _∙_}
 use mathlib.Core.List.{List, [], map}
-use Prim.Native.Nat.{ℕ, _*_, _/_, _<_, _≤_}
+use Prim.Native.Nat.{ℕ, _*_, _/_, _≤_}
 use native.Mathlib.Nat.{mul-le-mul-left, mul-one}
 use native.Mathlib.Omega.{arith}
-use borrow.Author.Tests.{le-leb, lt-leb}
-use lib.ListN.{length}
-use Rattle.format_grammar.specs.Check.{Outcome, accepted, refused, outcome}
-use Rattle.format_check.specs.Checked.{answer}
-use Rattle.format_check.specs.declared.FormatCheck.{FormatCheck}
-use Rattle.format_check.specs.declared.FormatCheck.the-variants as check
+use lib.IntN.{ℤ}
+use lib.ListN.{length, take}
+use lib.Seq.{length-take-le}
+use Rattle.format_grammar.specs.Check.{refused, outcome}
 use Rattle.format_items.specs.declared.FormatRefusal.{FormatRefusal}
-use Rattle.format_items.specs.Items.{Items}
-use Rattle.list_elements.specs.Elements.{kindOf, values}
-use Rattle.list_elements.specs.Limits.{listCheck}
+use Rattle.list_elements.specs.Elements.{kindOf, emptyList, values}
+use Rattle.list_elements.specs.Limits.{mostElements, withinLimits, firstFailing, checkValues, listCheck}
+use Rattle.list_elements.specs.Apart.{Apart, SomeGood}
+use Rattle.list_elements.proofs.ApartLaws.{check-good}
 use Rattle.list_elements.specs.Contents.{listOf}
 use Rattle.list_elements.proofs.ContentLaws.{values-list}
 use Rattle.list_elements.specs.declared.Value.{Value}
@@ -23,20 +22,17 @@ use Rattle.list_elements.specs.declared.ListCheck.{ListCheck}
 use Rattle.list_elements.specs.declared.ListCheck.the-variants.{Good, Bad}
 use Rattle.sheet_walk.specs.declared.Refusal.{Refusal}
 use Rattle.sheet_walk.specs.declared.Refusal.the-variants.{RecordWidth, Format, Element}
-use Rattle.sheet_walk.specs.declared.Answer.{Answer}
-use Rattle.sheet_walk.specs.declared.Answer.the-variants.{Refused}
-use Rattle.sheet_rows.specs.Rows.{Row, inOrder, formatRow, elementRow, rowsBefore, afterRows, recordsIn, walkUnder}
+use Rattle.sheet_rows.specs.Rows.{Row, formatRow, elementRow, afterRows, recordsIn, walkUnder}
 use Rattle.sheet_rows.proofs.RowLaws as row
 use Rattle.sheet_rows.proofs.RowLaws.{wrongFormat, wrong-format, wrong-format-refused, bad-list, bad-same, after-refused}
-use Rattle.sheet_write.specs.Writing.{Writing, accepts, refuses, walked, writingOf, writing, answerOf, writeAnswer, writeBuffer}
-use Rattle.sheet_write.specs.Parts.{Wrote}
+use Rattle.sheet_write.specs.Writing.{Writing, accepts, refuses, walked, writingOf, writing, answerOf}
+use Rattle.sheet_write.specs.Parts.{ListedIf}
 use Rattle.sheet_write.specs.Promises.{Call, becomes}
 use Rattle.sheet_write.proofs.Promises.{accepts-exactly, records-reached}
 use Rattle.sheet_walk.specs.Walk.{Trace}
 use Rattle.sheet_walk.specs.Answers.{answerRecords}
 use Rattle.list_text.specs.ListText.{lineValues, lineCheck, listGiven, lineList}
 use Rattle.sheet_text.specs.FromListText.{writingFrom, answerFrom}
-use Rattle.sheet_text.specs.Parts.{badListAnswer}
 use Rattle.sheet_text.specs.Promises.{WritingFromIs}
 
 -- ---- the list of a list text
@@ -90,60 +86,46 @@ wrong-writing R format check vs B {why} e =
 pub wrong-is-refused : (R : ℕ) (why : FormatRefusal) → IsRefused (formatRefused R why)
 wrong-is-refused R why = after-is-refused (refuses RecordWidth) (wrong-format-refused R (Format why))
 
-refused-wrote : {R : ℕ} {area : List ℕ} {vs : List Value} {before : List ℕ} {w : Writing} → IsRefused w → (ws : List Value) {r : Answer} → r ≡ answerOf ws w → Wrote R area vs before w r before
-refused-wrote (IsRefused.refused-by why) ws e = record { answers = e; bytes = refl }
+-- ---- the list that is read
 
-pub bad-wrote : (R : ℕ) (format text before : List ℕ) {p : ℕ} {r : Answer} → lineCheck text ≡ Bad p → r ≡ badListAnswer R format p
-    → Wrote R text (lineValues text) before (writingFrom R format text (length before)) r before
-bad-wrote R format text before {p} {r} e f =
-    subst (λ w. Wrote R text (lineValues text) before w r before) (sym (bad-writing R format p (lineValues text) (length before)) ∙ ap (λ k. writingOf R format k (lineValues text) (length before)) (sym e))
-    (refused-wrote (bad-is-refused R format p) [] f)
+module _ (text : List ℕ) {k : ListCheck} {l : carried.List} (e : k ≡ lineCheck text) (q : l ≡ lineList text) where
+  -- where row 6 passes, it has the values of the lines
+  module _ (g : k ≡ Good) where
+    list-is : l ≡ listOf (lineValues text)
+    list-is = q ∙ ap (λ x. listGiven x (lineValues text)) (sym e ∙ g)
 
--- its answer, row by row
-module _ (R : ℕ) (format : List ℕ) (p : ℕ) where
-  pub bad-width-none : R < 1 → Refused RecordWidth ≡ badListAnswer R format p
-  unfolding writingOf rowsBefore inOrder
-  bad-width-none h = rw (lt-leb 1 R h)
+    values-are : values l ≡ lineValues text
+    values-are = ap values list-is ∙ values-list (lineValues text)
 
-  module _ (low : 1 ≤ R) where
-    pub bad-width-over : 255 < R → Refused RecordWidth ≡ badListAnswer R format p
-    unfolding writingOf rowsBefore inOrder
-    bad-width-over h = rw (le-leb 1 R low, lt-leb R 255 h)
+    check-is : listCheck text l ≡ Good
+    check-is = ap (listCheck text) list-is ∙ text-list-check text ∙ sym e ∙ g
 
-    module _ (high : R ≤ 255) where
-      bad-accepted : {xs : Items} → outcome format ≡ accepted xs → Refused (Element p) ≡ badListAnswer R format p
-      unfolding writingOf rowsBefore inOrder
-      bad-accepted e = rw (le-leb 1 R low, le-leb R 255 high, e)
+  -- it is good either way, being empty where row 6 refuses
+  pub list-good : SomeGood l
+  unfolding checkValues firstFailing values
+  list-good = go k refl
+    where
+      go : (x : ListCheck) → k ≡ x → SomeGood l
+      go Good g = record { area = text; good = check-is g }
+      go (Bad p) g =
+          let m : l ≡ emptyList = q ∙ ap (λ x. listGiven x (lineValues text)) (sym e ∙ g) in
+          record { area = []; good = ap (listCheck []) m }
 
-      bad-refused : {why : FormatRefusal} → outcome format ≡ refused why → Refused (Format why) ≡ badListAnswer R format p
-      unfolding writingOf rowsBefore inOrder
-      bad-refused e = rw (le-leb 1 R low, le-leb R 255 high, e)
+  pub list-few : l .count ≤ mostElements
+  list-few = check-good (withinLimits (list-good .area)) l (list-good .good) .1
 
-      pub bad-format-right : {k : FormatCheck} → k ≡ answer (outcome format) → k ≡ check.Accepted → Refused (Element p) ≡ badListAnswer R format p
-      bad-format-right {k} e f = go (outcome format) refl
-        where
-          go : (o : Outcome) → outcome format ≡ o → Refused (Element p) ≡ badListAnswer R format p
-          go (accepted xs) q = bad-accepted q
-          go (refused why) q = let g : k ≡ check.Refused why = e ∙ ap answer q in let z : _≡_ {A = ℕ} 0 1 = cc in absurd (omega arith)
-
-      pub bad-format-wrong : {k : FormatCheck} {why : FormatRefusal} → k ≡ answer (outcome format) → k ≡ check.Refused why → Refused (Format why) ≡ badListAnswer R format p
-      bad-format-wrong {k} {why} e f = go (outcome format) refl
-        where
-          go : (o : Outcome) → outcome format ≡ o → Refused (Format why) ≡ badListAnswer R format p
-          go (accepted xs) q = let g : k ≡ check.Accepted = e ∙ ap answer q in let z : _≡_ {A = ℕ} 0 1 = cc in absurd (omega arith)
-          go (refused why₂) q = let g : k ≡ check.Refused why₂ = e ∙ ap answer q in let h : why ≡ why₂ = cc in ap (λ x. Refused (Format x)) h ∙ bad-refused q
-
--- ---- a good list
-
-pub good-wrote : (R : ℕ) (format text before : List ℕ) {k : ListCheck} {l : carried.List} {r : Answer} {after : List ℕ} → k ≡ lineCheck text → k ≡ Good → l ≡ lineList text
-    → r ≡ writeAnswer R format l text before → after ≡ writeBuffer R format l text before
-    → Wrote R text (lineValues text) before (writingFrom R format text (length before)) r after
-good-wrote R format text before {k} {l} {r} {after} e g q a b =
-    let m : l ≡ listOf (lineValues text) = q ∙ ap (λ x. listGiven x (lineValues text)) (sym e ∙ g) in
-    let v : values l ≡ lineValues text = ap values m ∙ values-list (lineValues text) in
-    let w : writing R format l text (length before) ≡ writingFrom R format text (length before) =
-    ap (λ x. writing R format x text (length before)) m ∙ sym (becomes-writing R format text (length before)) in
-    record { answers = a ∙ rw (w, v); bytes = b ∙ rw (w, v) }
+  pub text-listed : (ks : List ℕ) (ms : List ℤ) (ds : List ℕ) → length ks ≡ 64 → Apart (values l) (take (l .count) ks) (take (l .count) ms) (take (l .count) ds)
+      → ListedIf k text (lineValues text) (take (l .count) ks) (take (l .count) ms) (take (l .count) ds)
+  text-listed ks ms ds long a =
+      record {
+        if-good = λ g.
+            let m = length-take-le (l .count) ks (omega (arith, list-few)) in
+            record {
+              apart = rw (values-are g) at a;
+              good = rw (values-are g) at (check-good (withinLimits text) l (check-is g) .0);
+              few = omega (arith, list-few, m);
+            };
+      }
 
 -- ---- an accepted writing
 

@@ -3,4 +3,3 @@ pub mod Input
 pub mod Output
 pub mod SheetOutput
 pub mod Promises
-pub mod Parts

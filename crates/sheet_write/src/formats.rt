@@ -124,7 +124,7 @@ fn write_middle(
 }
 
 // With small arrays, or larger ones: under any format, for a list that was checked and taken apart.
-pub fn write_small(
+pub fn write_apart(
     width: usize,
     format: &[u8],
     check: ListCheck,

@@ -1,5 +1,5 @@
 // The public call.
-use crate::formats::write_small;
+use crate::formats::write_apart;
 use list_elements::List;
 use list_elements::apart::take_apart;
 use list_elements::apart::usable;
@@ -31,7 +31,7 @@ pub fn write(width: usize, format: &[u8], list: List, area: &[u8], buffer: &mut 
     let mut details = [0usize; 64];
     let check = take_apart(list, area, &mut kinds, &mut amounts, &mut details);
     let n = usable(check, count);
-    write_small(
+    write_apart(
         width,
         format,
         check,

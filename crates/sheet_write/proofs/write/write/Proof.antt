@@ -51,29 +51,29 @@ usable-requires c κs = search needs
 array-share-prefix-kinds : tie.Need-array-share-prefix-kinds
 array-share-prefix-kinds c = let g : length (c .before .before .before .before .take-apart .last .1 .1 .0) ≡ 64 = search needs in omega (arith, few c)
 
-slice-aggregate-write-small : tie.Need-slice-aggregate-write-small
-slice-aggregate-write-small c = let g : length (c .before .before .before .before .before .take-apart .last .1 .1 .0) ≡ 64 = search needs in sym (length-take-le _ _ (omega (arith, few (c .before))))
+slice-aggregate-write-apart : tie.Need-slice-aggregate-write-apart
+slice-aggregate-write-apart c = let g : length (c .before .before .before .before .before .take-apart .last .1 .1 .0) ≡ 64 = search needs in sym (length-take-le _ _ (omega (arith, few (c .before))))
 
 array-share-prefix-amounts : tie.Need-array-share-prefix-amounts
 array-share-prefix-amounts c = let g : length (c .before .before .before .before .before .take-apart .last .1 .1 .1 .0) ≡ 64 = search needs in omega (arith, few (c .before))
 
-slice-aggregate-write-small-2 : tie.Need-slice-aggregate-write-small-2
-slice-aggregate-write-small-2 c = let g : length (c .before .before .before .before .before .before .take-apart .last .1 .1 .1 .0) ≡ 64 = search needs in sym (length-take-le _ _ (omega (arith, few (c .before .before))))
+slice-aggregate-write-apart-2 : tie.Need-slice-aggregate-write-apart-2
+slice-aggregate-write-apart-2 c = let g : length (c .before .before .before .before .before .before .take-apart .last .1 .1 .1 .0) ≡ 64 = search needs in sym (length-take-le _ _ (omega (arith, few (c .before .before))))
 
 array-share-prefix-details : tie.Need-array-share-prefix-details
 array-share-prefix-details c = let g : length (c .before .before .before .before .before .before .take-apart .last .1 .1 .1 .1 .0) ≡ 64 = search needs in omega (arith, few (c .before .before))
 
-slice-aggregate-write-small-3 : tie.Need-slice-aggregate-write-small-3
-slice-aggregate-write-small-3 c = let g : length (c .before .before .before .before .before .before .before .take-apart .last .1 .1 .1 .1 .0) ≡ 64 = search needs in sym (length-take-le _ _ (omega (arith, few (c .before .before .before))))
+slice-aggregate-write-apart-3 : tie.Need-slice-aggregate-write-apart-3
+slice-aggregate-write-apart-3 c = let g : length (c .before .before .before .before .before .before .before .take-apart .last .1 .1 .1 .1 .0) ≡ 64 = search needs in sym (length-take-le _ _ (omega (arith, few (c .before .before .before))))
 
-write-small-requires : tie.Need-write-small-requires
-write-small-requires c κs = let a = c .before .before .before .before .before .before .before .before .before .before .before .before .before .before .before .before .before in let t = c .before .before .before .before .before .before .before .before .take-apart in let g : length (t .last .1 .1 .0) ≡ 64 = search needs in (right (c .before .before .before .before .before .before .before .before .before .before .before .before), record { vs = values (a .args .list); listed-if = listed-if (a .args .area .now) (a .args .list) (t .result) (t .ensures .0) (t .last .1 .1 .0) (t .last .1 .1 .1 .0) (t .last .1 .1 .1 .1 .0) g (t .ensures .1) (c .before .before .before .before .usable .ensures) })
+write-apart-requires : tie.Need-write-apart-requires
+write-apart-requires c κs = let a = c .before .before .before .before .before .before .before .before .before .before .before .before .before .before .before .before .before in let t = c .before .before .before .before .before .before .before .before .take-apart in let g : length (t .last .1 .1 .0) ≡ 64 = search needs in (right (c .before .before .before .before .before .before .before .before .before .before .before .before), record { vs = values (a .args .list); listed-if = listed-if (a .args .area .now) (a .args .list) (t .result) (t .ensures .0) (t .last .1 .1 .0) (t .last .1 .1 .1 .0) (t .last .1 .1 .1 .1 .0) g (t .ensures .1) (c .before .before .before .before .usable .ensures) })
 
 same-length : tie.Need-same-length
 same-length c = search needs
 
 returns-2 : tie.Need-returns-2
-returns-2 c = let a = c .before .before .before .before .before .before .before .before .before .before .before .before .before .before .before .before .before .before .before .before in let t = c .before .before .before .before .before .before .before .before .before .before .before .take-apart in let g : length (t .last .1 .1 .0) ≡ 64 = search needs in promised (checked-so (a .args .format .now) (t .ensures .0) (c .before .before .write-small .ensures .wrote (values (a .args .list)) (listed-if (a .args .area .now) (a .args .list) (t .result) (t .ensures .0) (t .last .1 .1 .0) (t .last .1 .1 .1 .0) (t .last .1 .1 .1 .1 .0) g (t .ensures .1) (c .before .before .before .before .before .before .before .usable .ensures))))
+returns-2 c = let a = c .before .before .before .before .before .before .before .before .before .before .before .before .before .before .before .before .before .before .before .before in let t = c .before .before .before .before .before .before .before .before .before .before .before .take-apart in let g : length (t .last .1 .1 .0) ≡ 64 = search needs in promised (checked-so (a .args .format .now) (t .ensures .0) (c .before .before .write-apart .ensures .wrote (values (a .args .list)) (listed-if (a .args .area .now) (a .args .list) (t .result) (t .ensures .0) (t .last .1 .1 .0) (t .last .1 .1 .1 .0) (t .last .1 .1 .1 .1 .0) g (t .ensures .1) (c .before .before .before .before .before .before .before .usable .ensures))))
 
 pub write-spec : {M : Type 1} → statement M
 write-spec =
@@ -87,11 +87,11 @@ write-spec =
     take-apart-requires
     usable-requires
     array-share-prefix-kinds
-    slice-aggregate-write-small
+    slice-aggregate-write-apart
     array-share-prefix-amounts
-    slice-aggregate-write-small-2
+    slice-aggregate-write-apart-2
     array-share-prefix-details
-    slice-aggregate-write-small-3
-    write-small-requires
+    slice-aggregate-write-apart-3
+    write-apart-requires
     same-length
     returns-2)

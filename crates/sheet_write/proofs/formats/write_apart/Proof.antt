@@ -1,11 +1,11 @@
--- `sheet_write::formats::write_small` meets its contract.
+-- `sheet_write::formats::write_apart` meets its contract.
 -- Assumes nothing.
 use mathlib.Core.Path.{sym}
 use lib.Seq.{length-take-le}
 use Rattle.sheet_write.proofs.WriteLaws.{format-refuses}
 use borrow.Author.Needs.{needs}
-use Rattle.sheet_write.proofs.formats.write_small.Statement.{statement}
-use Rattle.sheet_write.proofs.formats.write_small.Tie as tie
+use Rattle.sheet_write.proofs.formats.write_apart.Statement.{statement}
+use Rattle.sheet_write.proofs.formats.write_apart.Tie as tie
 
 slice-aggregate-load : tie.Need-slice-aggregate-load
 slice-aggregate-load c = search needs
@@ -58,8 +58,8 @@ same-length-2 c = search needs
 returns-3 : tie.Need-returns-3
 returns-3 c = let a = c .before .before .before .before .before .before .before .before .before .before .before .before .before .before .before .before .before .before .before .before .before in record { wrote = λ vs l. c .before .before .write-loaded .ensures .wrote vs (a .args .format .now) ((rw (c .before .before .before .before .before .before .before .end .given .1) at (c .before .before .before .before .before .before .before .before .before .before .before .before .load .ensures)) .1) l }
 
-pub write-small-spec : {M : Type 1} → statement M
-write-small-spec =
+pub write-apart-spec : {M : Type 1} → statement M
+write-apart-spec =
     tie.close
     (tie.spec
     slice-aggregate-load
