@@ -8,7 +8,7 @@ use read_passes::reading::read_pass;
 use sheet_walk::Ending;
 use sheet_walk::Records;
 use sheet_walk::Refusal;
-use sheet_walk::width::width_right;
+use sheet_walk::WIDEST_RECORD;
 ghost use Prim.Native.Nat.{_≤_, _<_, _^_};
 ghost use lib.ListN.{length};
 ghost use Rattle.format_load.specs.Loaded.{SomeRun};
@@ -172,7 +172,10 @@ pub fn read_numbers(
     requires { ⌜ (length (now kinds) < 2 ^ 32) × (length (now kinds) ≤ length (now amounts)) × (length (now kinds) ≤ length (now details)) ⌝ }
     ensures { λ r. ⌜ ReadText width (now (format .entry)) check (now (kinds .entry)) room (now (records .entry)) r (now (amounts .exit)) (now (details .exit)) ⌝ }
 {
-    if !width_right(width) {
+    if width < 1 {
+        return Ending::Refused(Refusal::RecordWidth);
+    }
+    if WIDEST_RECORD < width {
         return Ending::Refused(Refusal::RecordWidth);
     }
     read_small(width, format, check, kinds, room, records, amounts, details)

@@ -5,7 +5,7 @@ use list_elements::apart::take_apart;
 use list_elements::apart::usable;
 use sheet_walk::Answer;
 use sheet_walk::Refusal;
-use sheet_walk::width::width_right;
+use sheet_walk::WIDEST_RECORD;
 ghost use mathlib.Core.Path.{_≡_};
 ghost use lib.ListN.{length};
 ghost use Rattle.list_elements.specs.Elements.{values};
@@ -22,7 +22,11 @@ pub fn write(width: usize, format: &[u8], list: List, area: &[u8], buffer: &mut 
     ensures records { λ r. ⌜ answerRecords r ≡ writingRecords (writing width (now (format .entry)) list (now (area .entry)) (length (now (buffer .entry)))) ⌝ }
     ensures starred { λ r. ⌜ answerStarred r ≡ writingStarred (values list) (writing width (now (format .entry)) list (now (area .entry)) (length (now (buffer .entry)))) ⌝ }
 {
-    if !width_right(width) {
+    // Two tests: after one of both the compiler no longer knows that the width is small, and each field takes longer.
+    if width < 1 {
+        return Answer::Refused(Refusal::RecordWidth);
+    }
+    if WIDEST_RECORD < width {
         return Answer::Refused(Refusal::RecordWidth);
     }
     let count = list.count;

@@ -1,7 +1,6 @@
 -- `sheet_write::write::write` meets its contract.
 -- Assumes nothing.
-use mathlib.Core.Path.{_≡_, sym, _∙_}
-use borrow.Author.Tests.{not-true, not-false}
+use mathlib.Core.Path.{_≡_, sym}
 use native.Mathlib.Omega.{arith}
 use Prim.Native.Nat.{_≤_}
 use lib.ListN.{length}
@@ -12,7 +11,7 @@ use Rattle.list_elements.proofs.ApartLaws.{usable-few}
 use Rattle.sheet_write.proofs.WriteLaws.{width-refuses}
 use Rattle.sheet_write.proofs.Whole.{checked-so, listed-if, promised}
 use Rattle.sheet_walk.specs.Promises.{WidthRight}
-use Rattle.sheet_walk.proofs.WidthLaws.{width-passed}
+use Rattle.sheet_walk.proofs.WidthLaws.{width-none, width-over}
 use borrow.Author.Needs.{needs}
 use Rattle.sheet_write.proofs.write.write.Statement.{statement}
 use Rattle.sheet_write.proofs.write.write.Tie as tie
@@ -24,14 +23,14 @@ few c =
     rw (c .usable .ensures) (usable-few (withinLimits (a .args .area .now)) (a .args .list) (c .before .before .before .before .take-apart .result) (c .before .before .before .before .take-apart .ensures .0))
 
 -- row 1 is passed
-right : (c : tie.Else1) → WidthRight (c .before .before .before .before .before .args .width)
-right c = width-passed _ (sym (c .before .width-right .ensures) ∙ not-false _ (c .if1 .left))
-
-width-right-requires : tie.Need-width-right-requires
-width-right-requires c κs = search needs
+right : (c : tie.Else2) → WidthRight (c .before .before .before .before .before .args .width)
+right c = record { from = omega (arith, c .before .if1 .left); to = omega (arith, c .if2 .left) }
 
 returns : tie.Need-returns
-returns c = let a = c .before .before .before .before .before in promised (width-refuses (a .args .width) (a .args .format .now) (listCheck (a .args .area .now) (a .args .list)) (sym (c .before .width-right .ensures) ∙ not-true _ (c .if1 .taken)))
+returns c = let a = c .before .before .before .before in promised (width-refuses (a .args .width) (a .args .format .now) (listCheck (a .args .area .now) (a .args .list)) (width-none (a .args .width) (c .if1 .taken)))
+
+returns-2 : tie.Need-returns-2
+returns-2 c = let a = c .before .before .before .before .before in promised (width-refuses (a .args .width) (a .args .format .now) (listCheck (a .args .area .now) (a .args .list)) (width-over (a .args .width) (omega (arith, c .before .if1 .left)) (c .if2 .taken)))
 
 slice-aggregate-take-apart : tie.Need-slice-aggregate-take-apart
 slice-aggregate-take-apart c = search needs
@@ -72,15 +71,15 @@ write-apart-requires c κs = let a = c .before .before .before .before .before .
 same-length : tie.Need-same-length
 same-length c = search needs
 
-returns-2 : tie.Need-returns-2
-returns-2 c = let a = c .before .before .before .before .before .before .before .before .before .before .before .before .before .before .before .before .before .before .before .before in let t = c .before .before .before .before .before .before .before .before .before .before .before .take-apart in let g : length (t .last .1 .1 .0) ≡ 64 = search needs in promised (checked-so (a .args .format .now) (t .ensures .0) (c .before .before .write-apart .ensures .wrote (values (a .args .list)) (listed-if (a .args .area .now) (a .args .list) (t .result) (t .ensures .0) (t .last .1 .1 .0) (t .last .1 .1 .1 .0) (t .last .1 .1 .1 .1 .0) g (t .ensures .1) (c .before .before .before .before .before .before .before .usable .ensures))))
+returns-3 : tie.Need-returns-3
+returns-3 c = let a = c .before .before .before .before .before .before .before .before .before .before .before .before .before .before .before .before .before .before .before .before in let t = c .before .before .before .before .before .before .before .before .before .before .before .take-apart in let g : length (t .last .1 .1 .0) ≡ 64 = search needs in promised (checked-so (a .args .format .now) (t .ensures .0) (c .before .before .write-apart .ensures .wrote (values (a .args .list)) (listed-if (a .args .area .now) (a .args .list) (t .result) (t .ensures .0) (t .last .1 .1 .0) (t .last .1 .1 .1 .0) (t .last .1 .1 .1 .1 .0) g (t .ensures .1) (c .before .before .before .before .before .before .before .usable .ensures))))
 
 pub write-spec : {M : Type 1} → statement M
 write-spec =
     tie.close
     (tie.spec
-    width-right-requires
     returns
+    returns-2
     slice-aggregate-take-apart
     slice-aggregate-take-apart-2
     slice-aggregate-take-apart-3
@@ -94,4 +93,4 @@ write-spec =
     slice-aggregate-write-apart-3
     write-apart-requires
     same-length
-    returns-2)
+    returns-3)
