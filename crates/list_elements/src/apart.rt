@@ -15,11 +15,11 @@ ghost use lib.IntN.{pos};
 ghost use lib.ListN.{length, take};
 ghost use Rattle.list_elements.specs.Elements.{values};
 ghost use Rattle.list_elements.specs.Limits.{mostElements, longestText, listCheck};
-ghost use Rattle.list_elements.specs.Apart.{kindNumber, amount, detail, Apart, usableCount, SomeGood};
+ghost use Rattle.list_elements.specs.Apart.{kindNumber, amount, detail, Apart, usableCount, SomeGood, textKind, lengthBase};
 
 // A text's length is within its limits, so that the number is small.
 pub fn kind_number(v: Value) -> u64
-    requires { ⌜ kindNumber v ≤ longestText * 4 + 3 ⌝ }
+    requires { ⌜ kindNumber v ≤ longestText * lengthBase + textKind ⌝ }
     ensures { λ r. ⌜ r ≡ kindNumber v ⌝ }
 {
     match v {

@@ -8,7 +8,7 @@ use borrow.Author.Tests.{le-leb, lt-leb, eq-eqb, ne-eqb}
 use lib.Dec.{eqb}
 use lib.ListN.{length, getD, drop}
 use Rattle.format_items.specs.Items.{Field}
-use Rattle.list_elements.specs.Apart.{kindFrom}
+use Rattle.list_elements.specs.Apart.{kindFrom, lengthBase}
 use Rattle.sheet_walk.specs.Steps.{state, What, element, suits, fieldWidth, coverStep, fieldStep}
 use Rattle.sheet_walk.specs.Turns.{Standing, fieldKind, fieldColumns, stepAnswer}
 use Rattle.sheet_walk.specs.declared.Refusal.the-variants as refusal
@@ -36,7 +36,7 @@ module _ (rs : Records) (s : State) (w taken : ℕ) (h : s .column ≤ rs .width
 
 -- ---- fields
 
-suits-by : (f : Field ℕ) (k n : ℕ) → k % 4 ≡ n → n < 4 → suits f (kindFrom k) ≡ eqb n (fieldKind f)
+suits-by : (f : Field ℕ) (k n : ℕ) → k % lengthBase ≡ n → n < lengthBase → suits f (kindFrom k) ≡ eqb n (fieldKind f)
 unfolding kindFrom
 suits-by (Field.I w) k zero e h = rw e
 suits-by (Field.I w) k (suc zero) e h = rw e
@@ -60,10 +60,10 @@ suits-by (Field.Aw w) k (suc (suc zero)) e h = rw e
 suits-by (Field.Aw w) k (suc (suc (suc zero))) e h = rw e
 suits-by f k (suc (suc (suc (suc n)))) e h = absurd (omega arith)
 
-pub suits-is : (f : Field ℕ) (k : ℕ) → suits f (kindFrom k) ≡ eqb (k % 4) (fieldKind f)
-suits-is f k = suits-by f k (k % 4) refl (omega arith)
+pub suits-is : (f : Field ℕ) (k : ℕ) → suits f (kindFrom k) ≡ eqb (k % lengthBase) (fieldKind f)
+suits-is f k = suits-by f k (k % lengthBase) refl (omega arith)
 
-pub width-is : (f : Field ℕ) (k : ℕ) → k % 4 ≡ fieldKind f → fieldWidth f (kindFrom k) ≡ fieldColumns f k
+pub width-is : (f : Field ℕ) (k : ℕ) → k % lengthBase ≡ fieldKind f → fieldWidth f (kindFrom k) ≡ fieldColumns f k
 unfolding kindFrom
 width-is (Field.I w) k e = refl
 width-is (Field.F w d) k e = refl
@@ -72,19 +72,19 @@ width-is Field.A k e = rw e
 width-is (Field.Aw w) k e = refl
 
 module _ (rs : Records) (s : State) (ks : List ℕ) (kind width : ℕ) (f : Field ℕ) (fk : fieldKind f ≡ kind) (fc : fieldColumns f (getD ks (s .taken) 0) ≡ width) where
-  pub field-covers : s .taken < length ks → getD ks (s .taken) 0 % 4 ≡ kind → {r : Step}
+  pub field-covers : s .taken < length ks → getD ks (s .taken) 0 % lengthBase ≡ kind → {r : Step}
       → ((what : What) → r ≡ stepAnswer (rs .width) (coverStep rs s what width (s .taken + 1)))
       → r ≡ stepAnswer (rs .width) (fieldStep rs s f (drop (s .taken) (map kindFrom ks)))
   field-covers h e g =
       let k = getD ks (s .taken) 0 in
       let w : fieldWidth f (kindFrom k) ≡ width = width-is f k (e ∙ sym fk) ∙ fc in
-      rw (mapped-more kindFrom ks (s .taken) h, suits-is f k, fk, eq-eqb (k % 4) kind e, w) (g (element (s .taken) f))
+      rw (mapped-more kindFrom ks (s .taken) h, suits-is f k, fk, eq-eqb (k % lengthBase) kind e, w) (g (element (s .taken) f))
 
-  pub field-refused : s .taken < length ks → (getD ks (s .taken) 0 % 4 ≡ kind → ⊥)
+  pub field-refused : s .taken < length ks → (getD ks (s .taken) 0 % lengthBase ≡ kind → ⊥)
       → answer.Refused (refusal.Kind (s .taken)) ≡ stepAnswer (rs .width) (fieldStep rs s f (drop (s .taken) (map kindFrom ks)))
   field-refused h e =
       let k = getD ks (s .taken) 0 in
-      rw (mapped-more kindFrom ks (s .taken) h, suits-is f k, fk, ne-eqb (k % 4) kind e)
+      rw (mapped-more kindFrom ks (s .taken) h, suits-is f k, fk, ne-eqb (k % lengthBase) kind e)
 
   pub field-ends : length ks ≤ s .taken → answer.Ends ≡ stepAnswer (rs .width) (fieldStep rs s f (drop (s .taken) (map kindFrom ks)))
   field-ends h = rw (mapped-none kindFrom ks (s .taken) h)

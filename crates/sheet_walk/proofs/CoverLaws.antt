@@ -13,7 +13,7 @@ use Rattle.format_items.specs.Met.{Met}
 use Rattle.format_words.specs.Words.{metOf, kindOf, firstOf, kindAw, kindLiteral}
 use Rattle.format_words.proofs.WordKinds.{is-I, is-F, is-L, is-A, is-Aw, is-X, is-T, is-slash, Kinds, kinds}
 use Rattle.list_elements.specs.Elements.{Kind}
-use Rattle.list_elements.specs.Apart.{kindFrom}
+use Rattle.list_elements.specs.Apart.{kindFrom, lengthBase}
 use Rattle.sheet_walk.specs.Steps as steps
 use Rattle.sheet_walk.specs.Steps.{element, coverStep, fieldStep, nextRecord, hasField, endStep}
 use Rattle.sheet_walk.specs.Turns.{fieldKind, fieldColumns, elementKind, columnsFor, stepAnswer, onwardAnswer, sheetOf, turnOf, coverIn, Seen}
@@ -138,8 +138,8 @@ field-word t w h = go (kinds w)
 
 -- a field that suits the next element covers its columns
 pub field-step : (rs : Records) (s : State) (ks : List ℕ) {kind width : ℕ} (f : Field ℕ) → fieldKind f ≡ kind → fieldColumns f (getD ks (s .taken) 0) ≡ width
-    → s .taken < length ks → getD ks (s .taken) 0 % 4 ≡ kind → fieldStep rs s f (drop (s .taken) (map kindFrom ks)) ≡ coverStep rs s (element (s .taken) f) width (s .taken + 1)
+    → s .taken < length ks → getD ks (s .taken) 0 % lengthBase ≡ kind → fieldStep rs s f (drop (s .taken) (map kindFrom ks)) ≡ coverStep rs s (element (s .taken) f) width (s .taken + 1)
 field-step rs s ks {kind} f fk fc h e =
     let k = getD ks (s .taken) 0 in
     let w = width-is f k (e ∙ sym fk) ∙ fc in
-    rw (mapped-more kindFrom ks (s .taken) h, suits-is f k, fk, eq-eqb (k % 4) kind e, w)
+    rw (mapped-more kindFrom ks (s .taken) h, suits-is f k, fk, eq-eqb (k % lengthBase) kind e, w)

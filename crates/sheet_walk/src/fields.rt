@@ -9,7 +9,7 @@ ghost use mathlib.Core.List.{map};
 ghost use Prim.Native.Nat.{ℕ, _/_};
 ghost use lib.ListN.{drop, getD};
 ghost use Rattle.format_items.specs.Items.{Field};
-ghost use Rattle.list_elements.specs.Apart.{kindFrom};
+ghost use Rattle.list_elements.specs.Apart.{kindFrom, lengthBase};
 ghost use Rattle.sheet_walk.specs.Steps.{What, coverStep, fieldStep};
 ghost use Rattle.sheet_walk.specs.Turns.{Standing, stepAnswer, fieldKind, fieldColumns};
 
@@ -35,7 +35,7 @@ pub fn cover(rs: Records, s: State, width: usize, taken: usize) -> Step
 
 // The length of the next element's text; 0 where no element remains.
 pub fn text_width(kinds: &[u64], taken: usize) -> usize
-    ensures { λ r. ⌜ r ≡ getD (now (kinds .entry)) taken 0 / 4 ⌝ }
+    ensures { λ r. ⌜ r ≡ getD (now (kinds .entry)) taken 0 / lengthBase ⌝ }
 {
     if taken < kinds.len() {
         return (kinds[taken] / LENGTH_BASE) as usize;

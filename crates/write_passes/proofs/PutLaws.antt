@@ -26,7 +26,7 @@ use Rattle.format_words.proofs.WordKinds.{is-I, is-F, is-L, is-A, is-Aw, is-X, 
 use Rattle.list_elements.specs.Elements as elements
 use Rattle.list_elements.specs.Elements.{textBytes}
 use Rattle.list_elements.specs.Limits.{withinLimits}
-use Rattle.list_elements.specs.Apart.{kindNumber, amount, detail}
+use Rattle.list_elements.specs.Apart.{kindNumber, amount, detail, lengthBase}
 use Rattle.list_elements.proofs.ApartLaws.{kinds-length, amounts-length, details-length, kind-at, amount-at, detail-at, good-at}
 use Rattle.list_elements.proofs.LimitLaws.{from-bits}
 use Rattle.list_elements.specs.declared.Value.{Value}
@@ -174,31 +174,31 @@ module _ {t area : List ℕ} {vs : List Value} {ks : List ℕ} {ms : List ℤ} {
 
   -- A and Aw
   module _ (f : Field ℕ) (e : metOf t word ≡ Met.field f) (text : (k : elements.Kind) → suits f k ≡ isText k) (same : (m : ℕ) (x : Value) → fieldCharacters area f m x ≡ textField m (textBytes area (spanOf x))) (plainly : (m : ℕ) (x : Value) → fieldStarred f m x ≡ false) where
-    data-A : (detail v ≡ spanOf v .start) × (kindNumber v / 4 ≡ spanOf v .len) × (spanOf v .start + spanOf v .len ≤ length area)
+    data-A : (detail v ≡ spanOf v .start) × (kindNumber v / lengthBase ≡ spanOf v .len) × (spanOf v .start + spanOf v .len ≤ length area)
     data-A = text-data area v (sym (text (elements.kindOf v)) ∙ suits-value f e) (good-value f e)
 
     text-start : getD ds i 0 ≡ spanOf v .start
     text-start = detail-at (p .apart) i ∙ data-A .0
 
-    text-len : getD ks i 0 / 4 ≡ spanOf v .len
-    text-len = ap (λ k. k / 4) (kind-at (p .apart) i) ∙ data-A .1
+    text-len : getD ks i 0 / lengthBase ≡ spanOf v .len
+    text-len = ap (λ k. k / lengthBase) (kind-at (p .apart) i) ∙ data-A .1
 
-    text-inside : getD ds i 0 + getD ks i 0 / 4 ≤ length area
+    text-inside : getD ds i 0 + getD ks i 0 / lengthBase ≤ length area
     text-inside = rw (text-start, text-len) (data-A .2)
 
     text-starred : starredOf vs w (whatOf (metOf t word) i) ≡ false
     text-starred = rw e (plainly w v)
 
-    text-characters : charactersOf area vs w (whatOf (metOf t word) i) ≡ textField w (take (getD ks i 0 / 4) (drop (getD ds i 0) area))
+    text-characters : charactersOf area vs w (whatOf (metOf t word) i) ≡ textField w (take (getD ks i 0 / lengthBase) (drop (getD ds i 0) area))
     unfolding textBytes
     text-characters = rw (e, same w v, text-start, text-len)
 
   pub record TextPut : Type 0 where
     pub in-kinds : i < length ks
     pub in-details : i < length ds
-    pub inside : getD ds i 0 + getD ks i 0 / 4 ≤ length area
+    pub inside : getD ds i 0 + getD ks i 0 / lengthBase ≤ length area
     pub unstarred : starredOf vs w (whatOf (metOf t word) i) ≡ false
-    pub is : charactersOf area vs w (whatOf (metOf t word) i) ≡ textField w (take (getD ks i 0 / 4) (drop (getD ds i 0) area))
+    pub is : charactersOf area vs w (whatOf (metOf t word) i) ≡ textField w (take (getD ks i 0 / lengthBase) (drop (getD ds i 0) area))
 
   A-put : kindOf word ≡ kindA → TextPut
   unfolding fieldCharacters fieldStarred

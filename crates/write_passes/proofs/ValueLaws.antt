@@ -11,7 +11,7 @@ use Rattle.number.specs.Limits.{largest, mostPlaces}
 use Rattle.buffer.proofs.Tests.{no-way}
 use Rattle.list_elements.specs.Elements.{kindOf}
 use Rattle.list_elements.specs.Limits.{withinLimits}
-use Rattle.list_elements.specs.Apart.{kindNumber, amount, detail}
+use Rattle.list_elements.specs.Apart.{kindNumber, amount, detail, lengthBase}
 use Rattle.list_elements.proofs.ApartLaws.{within-integer, within-decimal, within-text}
 use Rattle.list_elements.specs.declared.Value.{Value}
 use Rattle.list_elements.specs.declared.Value.the-variants.{Integer, Decimal, Logical, Text}
@@ -33,7 +33,7 @@ module _ (area : List ℕ) where
   decimal-data (Text t) k l = no-way k
 
   pub text-data : (v : Value) → isText (kindOf v) ≡ true → withinLimits area v ≡ true
-      → (detail v ≡ spanOf v .start) × (kindNumber v / 4 ≡ spanOf v .len) × (spanOf v .start + spanOf v .len ≤ length area)
+      → (detail v ≡ spanOf v .start) × (kindNumber v / lengthBase ≡ spanOf v .len) × (spanOf v .start + spanOf v .len ≤ length area)
   text-data (Integer n) k l = no-way k
   text-data (Decimal x) k l = no-way k
   text-data (Logical b) k l = no-way k

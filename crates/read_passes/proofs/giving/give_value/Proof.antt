@@ -11,7 +11,7 @@ use Rattle.field_read.proofs.Promises.{text-read-length}
 use Rattle.read_passes.specs.Passes.{HeldAs}
 use native.Mathlib.Omega.{arith}
 use mir.Facts.{toZ-ofZ}
-use Rattle.list_elements.specs.Apart.{kindFrom}
+use Rattle.list_elements.specs.Apart.{kindFrom, lengthBase}
 use Rattle.list_elements.proofs.ApartLaws.{number-integer, number-decimal, number-logical, number-text}
 use Rattle.buffer.proofs.Splicing.{splice-nothing}
 use borrow.Author.Needs.{needs}
@@ -19,11 +19,11 @@ use Rattle.read_passes.proofs.giving.give_value.Statement.{statement}
 use Rattle.read_passes.proofs.giving.give_value.Tie as tie
 
 -- a text: its kind, and what is held of it
-the-text : (c : tie.At-match-rest) → kindFrom (c .before .before .before .args .kind) ≡ text (c .before .before .before .args .kind / 4)
+the-text : (c : tie.At-match-rest) → kindFrom (c .before .before .before .args .kind) ≡ text (c .before .before .before .args .kind / lengthBase)
 the-text c = number-text (c .before .before .before .args .kind) (c .match .rest .0 .0 .1) (c .match .rest .0 .1) (c .match .rest .1)
 
 abbrev TextHeld : tie.At-match-rest → Content → Type 0
-TextHeld c d = HeldAs (c .before .before .before .args .records .now) (text (c .before .before .before .args .kind / 4)) (c .before .before .before .args .amount) (c .before .before .before .args .detail) d
+TextHeld c d = HeldAs (c .before .before .before .args .records .now) (text (c .before .before .before .args .kind / lengthBase)) (c .before .before .before .args .amount) (c .before .before .before .args .detail) d
 
 text-held : (c : tie.At-match-rest) (d : Content) → HeldAs (c .before .before .before .args .records .now) (kindFrom (c .before .before .before .args .kind)) (c .before .before .before .args .amount) (c .before .before .before .args .detail) d → TextHeld c d
 text-held c d h = subst (λ (z : Kind). HeldAs (c .before .before .before .args .records .now) z (c .before .before .before .args .amount) (c .before .before .before .args .detail) d) (the-text c) h
@@ -54,7 +54,7 @@ same-length : tie.Need-same-length
 same-length c = search needs
 
 returns-4 : tie.Need-returns-4
-returns-4 c = let a = c .before .before .before .before .before .before .before .before in ((λ d h. let g = text-held (c .before .before .before .before .before) d h in rw (g .4) (ap (λ (z : ℕ). value.Text (record { start = a .args .at; len = z })) (sym (text-read-length (a .args .kind / 4) (take (g .0) (drop (a .args .detail) (a .args .records .now))))))), (λ d h. let g = text-held (c .before .before .before .before .before) d h in rw (g .4, ← width-is (c .before .before .before .before) d g) (c .before .before .read-text .ensures)))
+returns-4 c = let a = c .before .before .before .before .before .before .before .before in ((λ d h. let g = text-held (c .before .before .before .before .before) d h in rw (g .4) (ap (λ (z : ℕ). value.Text (record { start = a .args .at; len = z })) (sym (text-read-length (a .args .kind / lengthBase) (take (g .0) (drop (a .args .detail) (a .args .records .now))))))), (λ d h. let g = text-held (c .before .before .before .before .before) d h in rw (g .4, ← width-is (c .before .before .before .before) d g) (c .before .before .read-text .ensures)))
 
 pub give-value-spec : {M : Type 1} → statement M
 give-value-spec =
