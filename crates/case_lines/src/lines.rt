@@ -1,4 +1,4 @@
-// The lines of a text.
+// What a line begins with.
 
 // Whether a line begins with this byte.
 pub fn begins(line: &[u8], byte: u8) -> bool {

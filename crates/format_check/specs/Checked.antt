@@ -1,4 +1,4 @@
--- What the format check answers, and what it finds of an accepted format.
+-- What the format check answers, with its number and its place.
 -- Assumes nothing.
 use Prim.Native.Nat.{ℕ}
 use Rattle.format_grammar.specs.Check.{Outcome, accepted, refused}

@@ -47,7 +47,7 @@ abbrev pub outcomePlace : Outcome → ℕ
 outcomePlace (accepted xs) = 0
 outcomePlace (refused why) = refusalPlace why
 
--- the items of an accepted format
+-- the items of an accepted format; none of a refused one
 abbrev pub itemsOf : Outcome → Items
 itemsOf (accepted xs) = xs
 itemsOf (refused why) = none

@@ -114,6 +114,6 @@ AlwaysAnswered = (s : List ℕ) → AnsweredBy s (outcomeNumber (outcome s)) (ou
 
 -- ---- the items met
 
--- the items met of an accepted format are so, and there is at least one
+-- the items met of an accepted format have their numbers within their ranges, and there is at least one
 abbrev pub MetInRange : Type 0
 MetInRange = (s : List ℕ) (xs : Items) → Acceptable s xs → AllMetWithin (met xs) × (0 < length (met xs))

@@ -37,7 +37,7 @@ fieldNumbers (L w) = rangeW w ∷ []
 fieldNumbers A = []
 fieldNumbers (Aw w) = rangeW w ∷ []
 
--- the numbers of items in the order in which they stand (the law `NumbersInOrder` of `Promises`)
+-- the numbers of items in the order in which they stand (the law `NumbersInOrder` of `format_grammar`)
 unfoldable pub numbers : Items → List Ranged
 numbers none = []
 numbers (field r k xs) = repeatNumbers r ++ fieldNumbers k ++ numbers xs

@@ -24,7 +24,7 @@ pub record RunHeld (format t words : List ℕ) (back : ℕ) : Type 0 where
   pub within : AllMetWithin (map (metOf t) words)
   pub return-to : drop back (map (metOf t) words) ≡ met (returnPart items)
 
--- the run of an accepted format, whichever it is
+-- the run of some accepted format
 pub record SomeRun (t words : List ℕ) (back : ℕ) : Type 0 where
   pub format : List ℕ
   pub held : RunHeld format t words back

@@ -8,7 +8,7 @@ use lib.ListN.{take, drop}
 use Rattle.format_items.specs.Items.{Field}
 use Rattle.format_items.specs.Met.{Met}
 
--- the kinds are below the one, the first numbers of words, and the repeats of entries, below the other
+-- the kinds are below `kindBase`, the first numbers of words, and the repeats of entries, below `firstBase`
 abbrev pub kindBase : ℕ
 kindBase = 16
 
@@ -69,7 +69,7 @@ abbrev pub pickMet : Bool → Met → Met → Met
 pickMet true a b = a
 pickMet false a b = b
 
--- the item met that a word stands for, which is of no group; a literal's numbers are the offset and the count of its characters
+-- the item met that a word stands for, that is not a group's; a literal's numbers are the offset and the count of its characters
 -- in t
 unfoldable pub metOf : List ℕ → ℕ → Met
 metOf t w =
@@ -87,7 +87,7 @@ metOf t w =
 unfoldable pub reach : ℕ → ℕ
 reach w = cond (eqb (kindOf w) kindLiteral) (firstOf w + secondOf w) 0
 
--- a word of a run is of no group, and a literal's characters are among the first c
+-- a word of a run is not a group's, and a literal's characters are among the first c
 abbrev pub RunWord : ℕ → ℕ → Type 0
 RunWord c w = (kindOf w < kindGroup) × (reach w ≤ c)
 

@@ -86,7 +86,7 @@ Walks c xs = RowsPassed (c .R) (c .format) (WantedPass c) (length (c .records) /
 abbrev pub RowBefore : Call → ℕ → ℕ → Type 0
 RowBefore c = RowAnswers (c .R) (c .format) (WantedPass c) (WantedAnswers c) (length (c .records) / c .R)
 
--- its walk
+-- the call's walk, under the items xs
 abbrev pub walkOf : Call → Items → Trace
 walkOf c xs = walk (sheet xs (kindsOf c) (recordsIn (c .R) (length (c .records))))
 

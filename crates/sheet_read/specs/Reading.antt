@@ -41,8 +41,8 @@ textAreaRow kinds room = cond (leb (textsLength kinds) room) passed (rows.refuse
 unfoldable pub wantedRows : ListCheck → List Kind → ℕ → Row
 wantedRows check kinds room = inOrder (elementRow check ∷ textAreaRow kinds room ∷ [])
 
--- the whole of reading, for wanted elements whose check is given and that have these kinds: the rows before the walk, and the same walk
--- as in writing
+-- the whole of reading, for wanted elements whose check is given and that have these kinds: the rows before the walk, and the
+-- same walk as in writing
 unfoldable pub readingOf : ℕ → List ℕ → ListCheck → List Kind → ℕ → List ℕ → Reading
 readingOf R format check kinds room records =
     afterRows refuses (rowsBefore R (formatRow (outcome format)) (wantedRows check kinds room) (length records / R))

@@ -172,6 +172,7 @@ pub fn read_numbers(
     requires { ⌜ (length (now kinds) < 2 ^ 32) × (length (now kinds) ≤ length (now amounts)) × (length (now kinds) ≤ length (now details)) ⌝ }
     ensures { λ r. ⌜ ReadText width (now (format .entry)) check (now (kinds .entry)) room (now (records .entry)) r (now (amounts .exit)) (now (details .exit)) ⌝ }
 {
+    // Two tests, as in writing.
     if width < 1 {
         return Ending::Refused(Refusal::RecordWidth);
     }

@@ -16,15 +16,15 @@ use Rattle.sheet_rows.specs.Rows.{Row, passed, refused, elementRow, form
 
 -- ---- which row answers, with its number and its place: 'Rows apply in this order down to the first walk row'
 
--- every row before the walk is passed: R is right, the format is accepted as the items xs, the list's rows are passed (`Passes`), and
--- there are n records, at least one
+-- every row before the walk is passed: R is right, the format is accepted as the items xs, the list's rows are passed
+-- (`Passes`), and there are n records, at least one
 pub record RowsPassed (R : ℕ) (text : List ℕ) (Passes : Type 0) (n : ℕ) (xs : Items) : Type 0 where
   pub width : WidthRight R
   pub format : Acceptable text xs
   pub list : Passes
   pub some-record : 0 < n
 
--- a row before the walk answers, after those before it; `Answers` says which of the list's rows does
+-- a row before the walk answers, those before it being passed; `Answers` says which of the list's rows does
 pub data RowAnswers (R : ℕ) (text : List ℕ) (Passes : Type 0) (Answers : ℕ → ℕ → Type 0) (n : ℕ) : ℕ → ℕ → Type 0 where
   wrong-width : (WidthRight R → ⊥) → RowAnswers R text Passes Answers n 1 0
   wrong-format : {k p : ℕ} → WidthRight R → (k ≡ 0 → ⊥) → grammar.AnsweredBy text k p → RowAnswers R text Passes Answers n k p
@@ -37,7 +37,7 @@ pub data BadElement (check : ListCheck) : ℕ → ℕ → Type 0 where
 
 -- ---- the definition says the same
 
--- what some rows say, in such words: they are passed, or one answers
+-- what some rows say, in the terms above: they are passed, or one answers
 pub data RowTold (Passes : Type 0) (Answers : ℕ → ℕ → Type 0) : Row → Type 0 where
   passes : Passes → RowTold Passes Answers passed
   answers : {why : Refusal} → Answers (refusalNumber why) (refusalPlace why) → RowTold Passes Answers (refused why)
@@ -49,7 +49,8 @@ pub record RefusedWith (row : Row) (k p : ℕ) : Type 0 where
   pub number-is : refusalNumber why ≡ k
   pub place-is : refusalPlace why ≡ p
 
--- they are passed exactly where `Passes` holds, and refuse with the number and the place that answer, and with no other
+-- they are passed exactly where `Passes` holds, and refuse with the number and the place for which `Answers` holds, and with no
+-- other
 pub record Says (row : Row) (Passes : Type 0) (Answers : ℕ → ℕ → Type 0) : Type 0 where
   pub told : RowTold Passes Answers row
   pub passes-only : Passes → row ≡ passed

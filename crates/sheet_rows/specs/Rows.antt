@@ -60,6 +60,7 @@ afterRows refuses (refused why) walked = refuses why
 abbrev pub recordsIn : ℕ → ℕ → Records
 recordsIn R B = record { width = R; count = B / R }
 
--- the walk under a format's text, which is accepted, for elements of these kinds
+-- the walk under a format's text, for elements of these kinds. (Of a refused format there are no items; the rows before refuse it,
+-- so that this walk is not used.)
 abbrev pub walkUnder : List ℕ → List Kind → Records → Trace
 walkUnder format kinds rs = walk (sheet (formats.itemsOf (formats.outcome format)) kinds rs)

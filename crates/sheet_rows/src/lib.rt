@@ -1,1 +1,2 @@
-// The rows before the walk, for writing and reading. The definitions and theorems are in specs/ and proofs/: it has no code.
+// The rows before the walk, for writing and reading. The definitions and theorems are in specs/ and proofs/; this crate has no
+// code.

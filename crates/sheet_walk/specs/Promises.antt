@@ -71,7 +71,8 @@ EndRefusedIs =
 
 -- ---- what is covered
 
--- a sheet whose items have their numbers within their ranges, as those of an accepted format (`MetInRange`), and with a record
+-- a sheet whose items have their numbers within their ranges, as those of an accepted format (`MetInRange` of
+-- `format_grammar`), and with a record
 pub record Walkable (h : Sheet) : Type 0 where
   pub items-within : AllMetWithin (h .items)
   pub part-within : AllMetWithin (h .part)

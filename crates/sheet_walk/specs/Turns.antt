@@ -54,7 +54,8 @@ fieldColumns (Field.L w) k = w
 fieldColumns Field.A k = k / lengthBase
 fieldColumns (Field.Aw w) k = w
 
--- the same by a field's word: the words of I, F and L have the numbers of their elements' kinds
+-- the same by a field's word: the kinds of the words of I, F and L are the numbers of their elements' kinds, and the kinds of the
+-- words of A and Aw are not below that of a text
 abbrev pub elementKind : ℕ → ℕ
 elementKind w = cond (ltb (kindOf w) textKind) (kindOf w) textKind
 

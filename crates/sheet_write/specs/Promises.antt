@@ -75,7 +75,7 @@ Walks c xs = RowsPassed (c .R) (c .format) (listCheck (c .area) (c .list) ≡ Go
 abbrev pub RowBefore : Call → ℕ → ℕ → Type 0
 RowBefore c = RowAnswers (c .R) (c .format) (listCheck (c .area) (c .list) ≡ Good) (BadElement (listCheck (c .area) (c .list))) (length (c .buffer) / c .R)
 
--- its walk
+-- the call's walk, under the items xs
 abbrev pub walkOf : Call → Items → Trace
 walkOf c xs = walk (sheet xs (map kindOf (valuesOf c)) (recordsIn (c .R) (length (c .buffer))))
 

@@ -123,7 +123,8 @@ fn write_middle(
     }
 }
 
-// With small arrays, or larger ones: under any format, for a list that was checked and taken apart.
+// Rows 2 to 6 and 9, and the walk: under any format, for a width that is right and a list that was checked and taken apart. With
+// small arrays, or larger ones.
 pub fn write_apart(
     width: usize,
     format: &[u8],

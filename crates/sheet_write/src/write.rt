@@ -22,7 +22,7 @@ pub fn write(width: usize, format: &[u8], list: List, area: &[u8], buffer: &mut 
     ensures records { λ r. ⌜ answerRecords r ≡ writingRecords (writing width (now (format .entry)) list (now (area .entry)) (length (now (buffer .entry)))) ⌝ }
     ensures starred { λ r. ⌜ answerStarred r ≡ writingStarred (values list) (writing width (now (format .entry)) list (now (area .entry)) (length (now (buffer .entry)))) ⌝ }
 {
-    // Two tests: after one of both the compiler no longer knows that the width is small, and each field takes longer.
+    // Two tests and not `width_right`: after that the compiler does not know that the width is small, and a field takes longer.
     if width < 1 {
         return Answer::Refused(Refusal::RecordWidth);
     }

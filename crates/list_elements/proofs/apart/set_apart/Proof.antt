@@ -1,6 +1,6 @@
 -- `list_elements::apart::set_apart` meets its contract. The loop's invariant: the first i elements are taken apart.
 -- Assumes nothing.
-use mathlib.Core.Path.{_≡_, refl, sym, ap, _∙_}
+use mathlib.Core.Path.{_≡_, refl, ap, _∙_}
 use Prim.Native.Nat.{_≤_, _-_, min}
 use native.Mathlib.Omega.{arith}
 use lib.ListN.{length, length-set}
