@@ -13,9 +13,9 @@ use Rattle.format_grammar.specs.Check.{refused, checkSize, checkRange, outcome}
 use Rattle.format_items.specs.declared.FormatRefusal.the-variants.{Grammar, Range, Size}
 use Rattle.format_items.proofs.RangeLaws.{nowhere-all}
 use Rattle.format_grammar.proofs.Promises.{outcome-short}
-use Rattle.format_words.specs.Held.{Held}
+use Rattle.format_words.specs.Held.{SomeItems}
 use Rattle.format_run.specs.Sizes.{capped}
-use Rattle.format_run.specs.Runs.{Fits}
+use Rattle.format_run.specs.Runs.{SomeItemsFit}
 use Rattle.format_read.specs.declared.Position.{Position}
 use Rattle.format_read.specs.Whole.{kept, ItemsRead}
 use Rattle.format_load.specs.ItemsChecked.{ItemsHeld}
@@ -62,10 +62,10 @@ module _ (s : List ℕ) (short : length s ≤ 1024) where
             small = g;
           }
 
-pub held : {s a t : List ℕ} {p : Position} → ItemsRead s a t p → Held a 4 0 (p .entries)
+pub held : {s a t : List ℕ} {p : Position} → ItemsRead s a t p → SomeItems a 4 0 (p .entries)
 held {t} {p} i = record { t = t; c = p .chars; items = i .read; holds = i .holds }
 
 -- ---- room for the run of an accepted format
 
-pub items-fit : {s a t : List ℕ} {n k : ℕ} → ItemsHeld s a t n k → (run : List ℕ) → k ≤ length run → Fits a 4 0 n run 0
+pub items-fit : {s a t : List ℕ} {n k : ℕ} → ItemsHeld s a t n k → (run : List ℕ) → k ≤ length run → SomeItemsFit a 4 0 n run 0
 items-fit {t} i run h = record { t = t; c = i .c; items = i .items; holds = i .holds; ranges = i .ranges; room = omega (arith, i .sized) }

@@ -10,7 +10,7 @@ use lib.ListN.{getD}
 use Rattle.format_items.specs.Items.{Items}
 use Rattle.format_items.specs.Size.{size}
 use Rattle.format_words.specs.Words.{kindOf, wordOf, repeatOf, kindGroup}
-use Rattle.format_words.specs.Held.{Holds, Held}
+use Rattle.format_words.specs.Held.{Holds, SomeItems}
 use Rattle.format_run.specs.Sizes.{capped}
 use Rattle.format_run.proofs.FirstLaws.{size-group, first-adds}
 use Rattle.format_run.proofs.Views.{endOf, as-group, as-other, none-left}
@@ -47,7 +47,7 @@ pub added-none : {a : List ℕ} {l from to : ℕ} → Added a l from to 0 from
 added-none = record { low = omega arith; all = λ t c xs h. record { zs = xs; holds = h; sum = omega arith } }
 
 module _ {a : List ℕ} {l from to total i : ℕ} (w : Added a l from to total i) where
-  pub held-at : Held a l from to → Held a l i to
+  pub held-at : SomeItems a l from to → SomeItems a l i to
   held-at h =
       let g = w .all (h .t) (h .c) (h .items) (h .holds) in
       record { t = h .t; c = h .c; items = g .zs; holds = g .holds }

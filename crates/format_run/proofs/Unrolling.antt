@@ -12,7 +12,7 @@ use Rattle.format_items.specs.Size.{size}
 use Rattle.format_items.specs.Met.{Met, repeat, met, returnIndex}
 use Rattle.format_words.specs.Words.{kindOf, wordOf, repeatOf, kindGroup}
 use Rattle.format_words.specs.Held.{Holds}
-use Rattle.format_run.specs.Runs.{Repeatable, Repeated, Fits, Ran}
+use Rattle.format_run.specs.Runs.{Repeatable, Repeated, SomeItemsFit, Ran}
 use Rattle.format_items.proofs.MetLaws.{met-is-size, length-repeat}
 use Rattle.format_run.proofs.FirstLaws.{repeat-one, some-first, within-first, size-group, met-group, some-group, within-inside, within-next, first-adds}
 use Rattle.format_run.proofs.Views.{endOf, Group, as-group, Other, as-other, none-left}
@@ -22,7 +22,7 @@ use Rattle.format_run.proofs.Backs.{finalBack, final-start, final-none,
 
 -- ---- there is room for the first item
 
-module _ {a : List ℕ} {l i to : ℕ} {run : List ℕ} {e : ℕ} (f : Fits a l i to run e) where
+module _ {a : List ℕ} {l i to : ℕ} {run : List ℕ} {e : ℕ} (f : SomeItemsFit a l i to run e) where
   module _ (g : Group a (f .t) (f .c) l i (f .items) to) where
     in-range : AllWithin (numbers (Items.group (g .r) (g .inside) (g .next)))
     in-range = rw (g .is) at (f .ranges)
@@ -30,7 +30,7 @@ module _ {a : List ℕ} {l i to : ℕ} {run : List ℕ} {e : ℕ} (f : Fits a l 
     first-size : size (f .items) ≡ times (g .r) * size (g .inside) + size (g .next)
     first-size = ap size (g .is) ∙ size-group (g .r) (g .inside) (g .next)
 
-    pub fits-inside : Fits a (l - 1) (i + 1) (endOf a i) run e
+    pub fits-inside : SomeItemsFit a (l - 1) (i + 1) (endOf a i) run e
     fits-inside =
         let s = some-group (g .r) (g .inside) (g .next) in-range in
         record {
@@ -102,7 +102,7 @@ unrolling-none {n} =
     }
 
 module _ {a : List ℕ} {l from to : ℕ} {run₀ : List ℕ} {n : ℕ} {run : List ℕ} {e back i : ℕ} (w : Unrolling a l from to run₀ n run e back i) where
-  pub fits-at : Fits a l from to run₀ n → Fits a l i to run e
+  pub fits-at : SomeItemsFit a l from to run₀ n → SomeItemsFit a l i to run e
   fits-at f =
       let g = w .all (f .t) (f .c) (f .items) (f .holds) in
       let s : size (f .items) ≡ length (g .done) + size (g .zs) =

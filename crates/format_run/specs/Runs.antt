@@ -25,7 +25,7 @@ pub record Repeated (run : List ℕ) (n m r : ℕ) (out : List ℕ) (end : ℕ) 
   pub is : take end out ≡ take n run ++ repeat r (take (m - n) (drop n run))
 
 -- the entries from `from` up to `to` hold items whose numbers are in range, and there is room for them in the run from n on
-pub record Fits (a : List ℕ) (level from to : ℕ) (run : List ℕ) (n : ℕ) : Type 0 where
+pub record SomeItemsFit (a : List ℕ) (level from to : ℕ) (run : List ℕ) (n : ℕ) : Type 0 where
   pub t : List ℕ
   pub c : ℕ
   pub items : Items

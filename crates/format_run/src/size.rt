@@ -8,7 +8,7 @@ ghost use mathlib.Core.List.{List};
 ghost use Prim.Native.Nat.{ℕ, _≤_};
 ghost use Rattle.format_items.specs.Items.{Items};
 ghost use Rattle.format_items.specs.Size.{size};
-ghost use Rattle.format_words.specs.Held.{Holds, Held};
+ghost use Rattle.format_words.specs.Held.{Holds, SomeItems};
 ghost use Rattle.format_run.specs.Sizes.{capped};
 
 // What any size over the largest counts as.
@@ -23,7 +23,7 @@ fn capped(n: u64) -> u64
 
 // The size of the items that the entries from `from` up to `to` hold, by recursion over nested groups.
 pub fn size_of(entries: &[u64], from: usize, to: usize, level: usize) -> u64
-    requires { ⌜ Held (now entries) level from to ⌝ }
+    requires { ⌜ SomeItems (now entries) level from to ⌝ }
     ensures sized { λ r. ⌜ ((t : List ℕ) (c : ℕ) (xs : Items) → Holds (now (entries .entry)) t c level from xs to → r ≡ capped (size xs)) ⌝ }
     ensures bounded { λ r. ⌜ r ≤ 4097 ⌝ }
 {

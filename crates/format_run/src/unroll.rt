@@ -9,7 +9,7 @@ ghost use Prim.Native.Nat.{ℕ, _+_};
 ghost use Rattle.format_items.specs.Items.{Items};
 ghost use Rattle.format_items.specs.Met.{met, returnIndex};
 ghost use Rattle.format_words.specs.Held.{Holds};
-ghost use Rattle.format_run.specs.Runs.{Repeatable, Repeated, Fits, Ran};
+ghost use Rattle.format_run.specs.Runs.{Repeatable, Repeated, SomeItemsFit, Ran};
 
 // The words from n up to m, r times instead of once; answers where they then end.
 fn repeat_words(run: &mut [u64], n: usize, m: usize, r: u64) -> usize
@@ -42,7 +42,7 @@ pub fn unroll(
     run: &mut [u64],
     n: usize,
 ) -> Unrolled
-    requires { ⌜ Fits (now entries) level from to (now run) n ⌝ }
+    requires { ⌜ SomeItemsFit (now entries) level from to (now run) n ⌝ }
     ensures ran { λ r. ⌜ ((t : List ℕ) (c : ℕ) (xs : Items) → Holds (now (entries .entry)) t c level from xs to → Ran t c (now (run .entry)) n (met xs) (now (run .exit)) (r .end)) ⌝ }
     ensures returns { λ r. ⌜ ((t : List ℕ) (c : ℕ) (xs : Items) → Holds (now (entries .entry)) t c level from xs to → r .back ≡ n + returnIndex xs) ⌝ }
 {

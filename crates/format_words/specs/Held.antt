@@ -37,7 +37,7 @@ pub data Holds (a t : List ℕ) (c : ℕ) : ℕ → ℕ → Items → ℕ → Ty
       → Holds a t c l (n + 1) inside mid → Holds a t c (l + 1) mid next m → Holds a t c (l + 1) n (Items.group r inside next) m
 
 -- the entries hold some items
-pub record Held (a : List ℕ) (l n m : ℕ) : Type 0 where
+pub record SomeItems (a : List ℕ) (l n m : ℕ) : Type 0 where
   pub t : List ℕ
   pub c : ℕ
   pub items : Items
