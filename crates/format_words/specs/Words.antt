@@ -69,7 +69,7 @@ abbrev pub pickMet : Bool → Met → Met → Met
 pickMet true a b = a
 pickMet false a b = b
 
--- the item met that a word stands for, that is not a group's; a literal's numbers are the offset and the count of its characters
+-- the item met for which a word stands that is not a group's; a literal's numbers are the offset and the count of its characters
 -- in t
 unfoldable pub metOf : List ℕ → ℕ → Met
 metOf t w =

@@ -25,8 +25,8 @@ fn refused(place: usize) -> ListText
     }
 }
 
-// The list of a list text, its texts as places in the text itself; or refusal 6. Any bytes. Of a line at
-// most LONGEST_LINE + 1 bytes are looked at: one longer than LONGEST_LINE is outside the limits, whatever it holds.
+// The list of a list text, its texts as places in the text itself; or refusal 6. Any bytes. Of a line at most LONGEST_LINE + 1
+// bytes are looked at: one longer than LONGEST_LINE is outside the limits, whatever it holds.
 pub fn read_list(text: &[u8]) -> ListText
     ensures checked { λ r. ⌜ r .check ≡ lineCheck (now (text .entry)) ⌝ }
     ensures list { λ r. ⌜ r .list ≡ lineList (now (text .entry)) ⌝ }

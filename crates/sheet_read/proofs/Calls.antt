@@ -23,7 +23,7 @@ use Rattle.sheet_walk.specs.declared.Refusal.the-variants.{Element, TextArea, F
 use Rattle.sheet_walk.proofs.Covering.{in-put, in-stopped}
 use Rattle.sheet_rows.specs.Rows as rows
 use Rattle.sheet_rows.specs.Rows.{Row, passed, then, inOrder, formatRow, rowsBefore, afterRows, recordsIn, walkUnder}
-use Rattle.sheet_rows.specs.Promises.{RowTold, RefusedWith, Says}
+use Rattle.sheet_rows.specs.Promises.{BadElement, RowTold, RefusedWith, Says}
 use Rattle.sheet_rows.proofs.RowLaws.{rows-say, walk-under}
 use Rattle.read_passes.specs.Given.{Gathered, gathered}
 use Rattle.read_passes.proofs.GatheredLaws.{Gathers, Refuses, Told, told, AllReadable}
@@ -87,10 +87,10 @@ wanted-says c =
 
     told-so : (k : ListCheck) → wantedCheck (c .wanted) ≡ k → RowTold (WantedPass c) (WantedAnswers c) (wantedRows k (kindsOf c) (length (c .area)))
     told-so Good e = told-area e (leb (textsLength (kindsOf c)) (length (c .area))) refl
-    told-so (Bad p) e = RowTold.answers (WantedAnswers.bad-element e)
+    told-so (Bad p) e = RowTold.answers (WantedAnswers.row-six (BadElement.bad-element e))
 
     answers : {k p : ℕ} → WantedAnswers c k p → RefusedWith (wantedRows (wantedCheck (c .wanted)) (kindsOf c) (length (c .area))) k p
-    answers (WantedAnswers.bad-element {p} e) =
+    answers (WantedAnswers.row-six (BadElement.bad-element {p} e)) =
         record { why = Element p; is = element-refuses (wantedCheck (c .wanted)) (kindsOf c) (length (c .area)) e; number-is = refl; place-is = refl }
     answers (WantedAnswers.no-room g l) =
         record {

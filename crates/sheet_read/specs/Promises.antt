@@ -12,7 +12,7 @@ use Rattle.list_elements.specs.Limits.{mostElements, wantedCheck, textsLength}
 use Rattle.list_elements.specs.Contents.{Content, integer, contentOf, textsOf, valuesFrom, elementOf}
 use Rattle.list_elements.specs.declared.Element.{Element}
 use Rattle.list_elements.specs.declared.List as carried
-use Rattle.list_elements.specs.declared.ListCheck.the-variants.{Good, Bad}
+use Rattle.list_elements.specs.declared.ListCheck.the-variants.{Good}
 use Rattle.sheet_walk.specs.Refusals.{refusalNumber, refusalPlace}
 use Rattle.sheet_walk.specs.Steps.{element, Placement}
 use Rattle.sheet_walk.specs.Walk.{Trace, put, sheet, walk}
@@ -21,7 +21,7 @@ use Rattle.sheet_walk.specs.Laid.{columns}
 use Rattle.sheet_walk.specs.Promises.{EndsWith, StopsWith, elementsPut, numbersFrom}
 use Rattle.sheet_walk.specs.declared.Refusal.{Refusal}
 use Rattle.sheet_rows.specs.Rows.{recordsIn}
-use Rattle.sheet_rows.specs.Promises.{RowsPassed, RowAnswers}
+use Rattle.sheet_rows.specs.Promises.{RowsPassed, RowAnswers, BadElement}
 use Rattle.read_passes.specs.Given.{Given, gives, nothing, fieldGives, kindAt}
 use Rattle.sheet_walk.specs.Answers.{answerNumber, answerPlace, answerRecords, answerStarred}
 use Rattle.sheet_read.specs.Reading.{Reading, accepts, refuses, reading, readAnswer, readList, readArea}
@@ -75,7 +75,7 @@ pub record WantedPass (c : Call) : Type 0 where
 
 -- one of them answers with a number and a place
 pub data WantedAnswers (c : Call) : ℕ → ℕ → Type 0 where
-  bad-element : {p : ℕ} → wantedCheck (c .wanted) ≡ Bad p → WantedAnswers c 6 p
+  row-six : {k p : ℕ} → BadElement (wantedCheck (c .wanted)) k p → WantedAnswers c k p
   no-room : wantedCheck (c .wanted) ≡ Good → length (c .area) < textsLength (kindsOf c) → WantedAnswers c 13 0
 
 -- every row before the walk is passed, the format's items being xs
