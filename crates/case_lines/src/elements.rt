@@ -82,7 +82,7 @@ fn with_line(list: List, line: &[u8]) -> List {
 }
 
 // The list of a case, and where the next case begins.
-#[derive(Drop)]
+#[derive(Clone, Copy)]
 pub struct Listed {
     pub list: List,
     pub next: usize,

@@ -4,7 +4,7 @@ ghost use Rattle.std.specs.Prelude.{◌≤◌};
 use number::digits::{is_digit, wide};
 
 // A number read, and the offset after it.
-#[derive(Drop)]
+#[derive(Clone, Copy)]
 pub struct Read {
     pub value: u64,
     pub end: usize,
@@ -44,7 +44,7 @@ pub fn number_after(line: &[u8], at: usize) -> Read {
 }
 
 // Two numbers, one byte between them.
-#[derive(Drop)]
+#[derive(Clone, Copy)]
 pub struct Pair {
     pub first: usize,
     pub second: usize,
@@ -61,7 +61,7 @@ pub fn pair_at(line: &[u8], from: usize) -> Pair {
 }
 
 // A signed number read, and the offset after it.
-#[derive(Drop)]
+#[derive(Clone, Copy)]
 pub struct Signed {
     pub value: i64,
     pub end: usize,

@@ -6,14 +6,14 @@ use list_elements::List;
 use list_text::lines::{line_end, next_line};
 
 // Where a line begins and ends.
-#[derive(Drop)]
+#[derive(Clone, Copy)]
 pub struct Line {
     pub start: usize,
     pub end: usize,
 }
 
 // A case: its first line, the format, a line of bytes, and the list; and where the next case begins.
-#[derive(Drop)]
+#[derive(Clone, Copy)]
 pub struct Sheet {
     pub head: Line,
     pub format: Line,

@@ -1,4 +1,6 @@
 // The console host's calls, for C: numbers and byte slices.
+#![tactic(auto)]
+
 mod answers;
 
 ghost use Rattle.std.specs.Prelude.{◌≡◌};

@@ -1,4 +1,6 @@
 // Numeric fields through the compiled library: a line for each case, held to `stdout`.
+#![tactic(auto)]
+
 mod read;
 mod written;
 

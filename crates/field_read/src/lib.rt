@@ -1,4 +1,6 @@
 // Fields read: integers under Iw, decimals under Fw.d, logicals under Lw, texts under Aw.
+#![tactic(auto)]
+
 mod answer;
 pub mod decimal;
 mod digits;
@@ -10,21 +12,21 @@ pub mod text;
 use field_written::Sign;
 
 // A field read: units and places (0 under I), or no number.
-#[derive(Drop)]
+#[derive(Clone, Copy)]
 pub enum FieldRead {
     Number { units: i64, places: usize },
     Refused,
 }
 
 // A logical field read.
-#[derive(Drop)]
+#[derive(Clone, Copy)]
 pub enum LogicalRead {
     Truth(bool),
     Refused,
 }
 
 // A field that is all blank; or the sign in front, and the offset after it.
-#[derive(Drop)]
+#[derive(Clone, Copy)]
 enum Front {
     Nothing,
     Found { sign: Sign, from: usize },
@@ -32,7 +34,7 @@ enum Front {
 
 // A run of digits: the number that they make after a number before, how many they are, and the offset after them and
 // the blanks that follow.
-#[derive(Drop)]
+#[derive(Clone, Copy)]
 enum Run {
     Digits {
         value: u64,

@@ -1,4 +1,6 @@
 // Fields written: integers under Iw, decimals under Fw.d, logicals under Lw, texts under Aw.
+#![tactic(auto)]
+
 mod columns;
 pub mod decimal;
 pub mod integer;
@@ -7,7 +9,7 @@ pub mod parts;
 pub mod text;
 
 // The sign in front of a numeral.
-#[derive(Drop)]
+#[derive(Clone, Copy)]
 pub enum Sign {
     None,
     Plus,
@@ -15,7 +17,7 @@ pub enum Sign {
 }
 
 // The answer of writing a decimal.
-#[derive(Drop)]
+#[derive(Clone, Copy)]
 pub enum Put {
     Shown,
     Starred,

@@ -1,5 +1,7 @@
 // Formats through the compiled library. A line of standard input is a format, for which the format check's answer is
 // written; after an equals sign it is a format whose items met are written. Formats with a line feed in them stand here.
+#![tactic(auto)]
+
 mod answers;
 mod lines;
 mod runs;

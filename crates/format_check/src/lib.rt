@@ -1,4 +1,6 @@
 // The format check: rows 2 to 5 of document 01's 'Checks by place'.
+#![tactic(auto)]
+
 pub mod check;
 
 use format_items::FormatRefusal;
@@ -6,7 +8,7 @@ use format_items::FormatRefusal;
 pub use format_items::refusal;
 
 // What the format check answers.
-#[derive(Drop)]
+#[derive(Clone, Copy)]
 pub enum FormatCheck {
     Accepted,
     Refused(FormatRefusal),

@@ -1,4 +1,6 @@
 // Items of a format: their limits, and the refusals of the format check. The definitions and theorems are in specs/ and proofs/.
+#![tactic(auto)]
+
 pub mod refusal;
 
 // The longest format, in bytes.
@@ -15,7 +17,7 @@ pub const LARGEST_WIDTH: u64 = 64;
 pub const LARGEST_PLACES: u64 = 9;
 
 // A format refused: rows 2 to 5 of document 01's 'Checks by place'.
-#[derive(Drop)]
+#[derive(Clone, Copy)]
 pub enum FormatRefusal {
     Length,
     Grammar { place: usize },

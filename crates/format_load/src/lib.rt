@@ -1,18 +1,20 @@
 // A format loaded: its text checked, and its items unrolled into a run of words.
+#![tactic(auto)]
+
 pub mod items;
 pub mod load;
 
 use format_items::FormatRefusal;
 
 // A format's items: how many entries hold them, and their size; or a refusal.
-#[derive(Drop)]
+#[derive(Clone, Copy)]
 pub enum ItemsChecked {
     Items { entries: usize, size: usize },
     Refused(FormatRefusal),
 }
 
 // What loading answers.
-#[derive(Drop)]
+#[derive(Clone, Copy)]
 pub enum Loading {
     // The format is refused.
     Refused(FormatRefusal),

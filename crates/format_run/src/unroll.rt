@@ -24,7 +24,7 @@ fn repeat_words(run: &mut [u64], n: usize, m: usize, r: u64) -> usize
 
 // What unrolling answers: where the run ends, and where the rightmost group among the items themselves begins, or their
 // beginning without one.
-#[derive(Drop)]
+#[derive(Clone, Copy)]
 pub struct Unrolled {
     pub end: usize,
     pub back: usize,

@@ -1,4 +1,6 @@
 // Items and items met as numbers: the layout of words and entries.
+#![tactic(auto)]
+
 ghost use Rattle.std.specs.Prelude.{◌≡◌};
 ghost use Rattle.format_words.specs.Words.{second_of};
 

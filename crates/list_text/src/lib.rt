@@ -1,4 +1,6 @@
 // List text: one element a line.
+#![tactic(auto)]
+
 pub mod digits;
 mod elements;
 pub mod lines;
@@ -8,21 +10,21 @@ pub mod read;
 use list_elements::{List, ListCheck};
 
 // One or more digits read.
-#[derive(Drop)]
+#[derive(Clone, Copy)]
 pub enum DigitsRead {
     Value(u64),
     Wrong,
 }
 
 // A number of a line.
-#[derive(Drop)]
+#[derive(Clone, Copy)]
 pub enum NumberRead {
     Number(i64),
     Wrong,
 }
 
 // A list text read: row 6 of document 01's 'Checks by place', and the list, which is empty where row 6 refuses.
-#[derive(Drop)]
+#[derive(Clone, Copy)]
 pub struct ListText {
     pub check: ListCheck,
     pub list: List,

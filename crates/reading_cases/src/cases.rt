@@ -16,7 +16,7 @@ use sheet_walk::Answer;
 use sheet_write::write::write;
 
 // The numbers of a case's first line: the record width, the text area's length, and the length of the buffer written into.
-#[derive(Drop)]
+#[derive(Clone, Copy)]
 struct Sizes {
     width: usize,
     area: usize,

@@ -12,6 +12,8 @@
 // that of the reading, which is left out where the writing was refused.
 //
 // A line that begins with an asterisk, before a case, is written as it stands.
+#![tactic(auto)]
+
 mod answers;
 mod cases;
 mod records;

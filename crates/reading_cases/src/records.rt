@@ -23,7 +23,7 @@ fn hex_digit(byte: u8) -> u8
 }
 
 // A byte, and the offset after the characters that stand for it.
-#[derive(Drop)]
+#[derive(Clone, Copy)]
 struct Given {
     byte: u8,
     next: usize,

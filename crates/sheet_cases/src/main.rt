@@ -2,6 +2,8 @@
 // the format; the text area; a line for each element (`I n`, `D u s`, `L T` or `L F`, `A start len`); `N` and a count, where
 // the count is not that of the elements; a period. The buffer is full of `#` before the call. For each case one line is
 // written: the answer and the whole buffer; or the refusal's number and place, and whether the buffer was changed.
+#![tactic(auto)]
+
 mod answers;
 mod cases;
 

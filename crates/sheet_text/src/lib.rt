@@ -1,4 +1,6 @@
 // Sheets as text: writing from a list text, and the whole input and output of the program `trimsheet`.
+#![tactic(auto)]
+
 mod lines;
 mod numbers;
 pub mod sheet;

@@ -1,4 +1,6 @@
 // The walk over the items met: one step of it, for writing and reading.
+#![tactic(auto)]
+
 pub mod fields;
 pub mod items;
 pub mod refusals;
@@ -8,7 +10,7 @@ pub mod width;
 use format_items::FormatRefusal;
 
 // A sheet refused: rows of document 01's 'Checks by place'.
-#[derive(Drop)]
+#[derive(Clone, Copy)]
 pub enum Refusal {
     RecordWidth,
     Format(FormatRefusal),
@@ -27,14 +29,14 @@ pub enum Refusal {
 pub const WIDEST_RECORD: usize = 255;
 
 // The records that a buffer holds: their width and their number.
-#[derive(Drop)]
+#[derive(Clone, Copy)]
 pub struct Records {
     pub width: usize,
     pub count: usize,
 }
 
 // Where the walk stands: the record, from 0; the column, from 1; the elements taken.
-#[derive(Drop)]
+#[derive(Clone, Copy)]
 pub struct State {
     pub row: usize,
     pub column: usize,
@@ -42,7 +44,7 @@ pub struct State {
 }
 
 // What one item does: the walk goes on from another state, after columns were covered or not, is refused, or ends.
-#[derive(Drop)]
+#[derive(Clone, Copy)]
 pub enum Step {
     Moves(State),
     Covers {
@@ -55,14 +57,14 @@ pub enum Step {
 }
 
 // The walk between two items: the index of the next one, and the state.
-#[derive(Drop)]
+#[derive(Clone, Copy)]
 pub struct Cursor {
     pub index: usize,
     pub state: State,
 }
 
 // One turn of the walk: an item, or the end of the format.
-#[derive(Drop)]
+#[derive(Clone, Copy)]
 pub enum Turn {
     Goes(Cursor),
     Covers {
@@ -77,7 +79,7 @@ pub enum Turn {
 }
 
 // The columns that a turn covers, or that it moves on, and the walk after it; or neither.
-#[derive(Drop)]
+#[derive(Clone, Copy)]
 pub enum Cover {
     Columns {
         at: usize,
@@ -89,14 +91,14 @@ pub enum Cover {
 }
 
 // How a walk ends once the values of its fields were checked as well.
-#[derive(Drop)]
+#[derive(Clone, Copy)]
 pub enum Ending {
     Accepted { records: usize },
     Refused(Refusal),
 }
 
 // What writing and reading answer: the records reached and the starred fields, 0 in reading; or a refusal.
-#[derive(Drop)]
+#[derive(Clone, Copy)]
 pub enum Answer {
     Accepted { records: usize, starred: usize },
     Refused(Refusal),

@@ -1,4 +1,6 @@
 // The program: reads a sheet from standard input, and writes its records, or the refusal, to standard output.
+#![tactic(auto)]
+
 use libc::{STDIN_FILENO, STDOUT_FILENO};
 use sheet_text::{INPUT, OUTPUT, RECORD_BUFFER};
 
