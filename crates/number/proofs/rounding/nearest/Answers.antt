@@ -1,0 +1,5 @@
+use mathlib.Core.Path.{refl}
+use Rattle.number.proofs.rounding.nearest.Goals as goal
+
+pub returns : goal.returns
+returns c = refl
