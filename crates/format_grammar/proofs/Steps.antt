@@ -126,12 +126,12 @@ reached_begun {s} {l} {a} {at} {r} {xs} {q} h g rep =
 
 -- ---- the byte after a number
 
-reached_pointed : {s : List ℕ} {l a at o : ℕ} {r n : Repeat} {xs : Items} {q : Open} → Begun s l xs q a → RepeatAt s a r o → At s o letter_f → RepeatAt s (o + 1) n at → At s at decimal_point
+reached_pointed : {s : List ℕ} {l a o at : ℕ} {r n : Repeat} {xs : Items} {q : Open} → Begun s l xs q a → RepeatAt s a r o → At s o letter_f → RepeatAt s (o + 1) n at → At s at decimal_point
     → Reached s (at + 1) (pointed r n at l xs q)
 reached_pointed g rep f RepeatAt.absent here = Reached.dead
 reached_pointed g rep f (RepeatAt.given w) here = number_next here.within g (UsedAt.places rep f w here)
 
-reached_used : {s : List ℕ} {l a at o : ℕ} {u : Use} {n : Repeat} {xs : Items} {q : Open} → at < length s → Begun s l xs q a → UsedAt s a u o → RepeatAt s o n at
+reached_used : {s : List ℕ} {l a o at : ℕ} {u : Use} {n : Repeat} {xs : Items} {q : Open} → at < length s → Begun s l xs q a → UsedAt s a u o → RepeatAt s o n at
     → Reached s (at + 1) (used u n at l xs q (get_or s at 0))
 reached_used h g UsedAt.start n = reached_begun h g n
 reached_used h g (UsedAt.width_i rep k) RepeatAt.absent = Reached.dead

@@ -1,0 +1,64 @@
+use mathlib.Core.Path.{◌≡◌, refl, sym, ◌∙◌}
+use Prim.Native.Nat.{◌≤◌}
+use native.Mathlib.Omega.{arith}
+use lib.ListN.{length, get_or, length-set}
+use borrow.Author.Tests.{not-true, not-false}
+use Rattle.list_elements.specs.Elements.{value_of, zero_value, values}
+use Rattle.list_elements.specs.Limits.{may_be_wanted}
+use Rattle.list_elements.specs.Apart.{kind_number}
+use Rattle.list_elements.proofs.ApartLaws.{wanted_small, bad_not_good}
+use Rattle.list_elements.proofs.Taking.{any_map, values_length, element_is, checked_none, checked_more, checked_bad, checked_good, filled_none, filled_more, filled_all, check_bad, check_many, check_fine}
+use Rattle.list_elements.proofs.wanted.take_kinds.Goals as goal
+use Rattle.list_elements.proofs.wanted.take_kinds.Goals.{Start}
+
+-- the list's array has 64 elements
+full : (c : Start) → length c.args.list.elements ≡ 64
+full c =
+    let good = c.well_formed in
+    search any_map
+
+pub loop-i-init : goal.loop-i-init
+loop-i-init c = (checked_none, filled_none, refl)
+
+pub returns-then-not-may_be_wanted : goal.returns-then-not-may_be_wanted
+returns-then-not-may_be_wanted c = let w = c in
+    let l = w.loop-i in
+    let s = w in
+    let k = element_is s.args.list (full (goal.at.returns-then-not-may_be_wanted c).Start) w.looked_at-n.ensures w.loop-i-test.true in
+    record {
+      checked = check_bad may_be_wanted s.args.list (full (goal.at.returns-then-not-may_be_wanted c).Start) (checked_bad l.invariant.0 k.0 k.1 (sym w.may_be_wanted.ensures ∙ not-true _ c.if-not-may_be_wanted.true-raw));
+      kinds = bad_not_good;
+    }
+
+pub kind_number-requires : goal.kind_number-requires
+kind_number-requires c = let l = c in
+    wanted_small (value_of (get_or l.args.list.elements l.loop-i.i (record { value = zero_value }))) (sym c.may_be_wanted.ensures ∙ not-false _ c.if-not-may_be_wanted.false-raw)
+
+pub loop-i-preserved : goal.loop-i-preserved
+loop-i-preserved c = let w = c in
+    let l = w.loop-i in
+    let s = w in
+    let k = element_is s.args.list (full (goal.at.loop-i-preserved c).Start) w.looked_at-n.ensures w.loop-i-test.true in (
+      checked_more l.invariant.0 k.0 k.1 (sym w.may_be_wanted.ensures ∙ not-false _ c.if-not-may_be_wanted.false-raw),
+      filled_more l.invariant.1 (omega arith) k.0 k.1 c.kind_number.ensures,
+      simp length-set l.invariant.2,
+    )
+
+pub returns-then-count-gt-MOST : goal.returns-then-count-gt-MOST
+returns-then-count-gt-MOST c = let l = c.loop-i in
+    let s = c in
+    let h : length (values s.args.list) ≤ l.i = omega (arith, values_length s.args.list (full (goal.at.returns-then-count-gt-MOST c).Start), c.looked_at-n.ensures) in
+    record {
+      checked = check_many may_be_wanted s.args.list (full (goal.at.returns-then-count-gt-MOST c).Start) (checked_good l.invariant.0 h) c.if-count-gt-MOST.true;
+      kinds = bad_not_good;
+    }
+
+pub returns : goal.returns
+returns c = let l = c.loop-i in
+    let s = c in
+    let n : length (values s.args.list) ≡ s.args.list.count = omega (arith, values_length s.args.list (full (goal.at.returns c).Start)) in
+    let h : s.args.list.count ≡ l.i = omega (arith, c.looked_at-n.ensures) in
+    record {
+      checked = check_fine may_be_wanted s.args.list (full (goal.at.returns c).Start) (checked_good l.invariant.0 (omega arith)) c.if-count-gt-MOST.false;
+      kinds = λ e. filled_all l.invariant.1 s.args.list.count h (omega arith);
+    }
