@@ -1,7 +1,7 @@
 -- Laws of a number read: its digits, the point, and its limits.
 -- Assumes nothing.
 use mathlib.Core.Path.{◌≡◌, refl, ap}
-use mathlib.Core.Bool.{true, false, ◌&&◌, cond, and_false}
+use mathlib.Core.Bool.{true, false, ◌&&◌, cond, and-false}
 use mathlib.Core.List.{List, [], ◌∷◌, ◌++◌}
 use Prim.Native.Nat.{ℕ, suc, ◌<◌, ◌≤◌}
 use native.Mathlib.Nat.{mul-le-mul_left, mul-one}
@@ -25,7 +25,7 @@ use Rattle.field_read.specs.declared.FieldRead.TheVariants.{Number, Refused}
 some_other : (ds : List ℕ) (c : ℕ) (more : List ℕ) → is_digit c ≡ false → all_digits (ds ++ (c ∷ more)) ≡ false
 unfolding all_digits
 some_other [] c more h = rw h
-some_other (x ∷ xs) c more h = rw (some_other xs c more h) (and_false (is_digit x))
+some_other (x ∷ xs) c more h = rw (some_other xs c more h) (and-false (is_digit x))
 
 value_more : (ds more : List ℕ) → value ds ≤ value (ds ++ more)
 value_more ds more =
@@ -46,17 +46,17 @@ module _ (s : Sign) (p : ℕ) (x y : List ℕ) where
 
   pub number_bad : (ds : List ℕ) (c : ℕ) (more : List ℕ) → x ++ y ≡ ds ++ (c ∷ more) → is_digit c ≡ false → number_read s p x y ≡ Refused
   unfolding number_read
-  number_bad ds c more e h = rw (e, some_other ds c more h) (simp and_false)
+  number_bad ds c more e h = rw (e, some_other ds c more h) (simp and-false)
 
   pub number_over : (ds more : List ℕ) → x ++ y ≡ ds ++ more → largest < value ds → number_read s p x y ≡ Refused
   unfolding number_read
   number_over ds more e h =
       let v : largest < value (x ++ y) = rw e (omega (arith, value_more ds more)) in
-      simp (lt-leb (value (x ++ y)) largest v, and_false)
+      simp (lt-leb (value (x ++ y)) largest v, and-false)
 
   pub number_long : 9 < length y → number_read s p x y ≡ Refused
   unfolding number_read
-  number_long h = simp (lt-leb (length y) 9 h, and_false)
+  number_long h = simp (lt-leb (length y) 9 h, and-false)
 
 -- ---- the sign
 
