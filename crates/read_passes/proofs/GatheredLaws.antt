@@ -158,14 +158,14 @@ module _ {R : ℕ} {kinds : List Kind} {records : List ℕ} where
   gathers_readable (Gathers.takes {p} {c} {i} {f} q e a) = in-put (Readable R kinds records) (element_readable R kinds records p i f c q e) (gathers_readable a)
 
   -- where every field gives something, contents are gathered
-  pub readable_gathers : {t : Trace} {n : ℕ} → EndsWith n t → AllReadable R kinds records t → (cs : List Content) × Gathers R kinds records t cs n
+  pub readable_gathers : {n : ℕ} {t : Trace} → EndsWith n t → AllReadable R kinds records t → (cs : List Content) × Gathers R kinds records t cs n
   readable_gathers EndsWith.here all = ([], Gathers.ends)
   readable_gathers {n} (EndsWith.there {p} {t} e) all =
       let rest = readable_gathers e (λ q m. all q (there m)) in
       put_gathers R kinds records p t rest.0 n (all p here) rest.1
 
   -- and where the walk stops, its refusal is the first
-  pub readable_refuses : {t : Trace} {why : Refusal} → StopsWith why t → AllReadable R kinds records t → Refuses R kinds records t why
+  pub readable_refuses : {why : Refusal} {t : Trace} → StopsWith why t → AllReadable R kinds records t → Refuses R kinds records t why
   readable_refuses StopsWith.here all = Refuses.stops
   readable_refuses (StopsWith.there {p} s) all = Refuses.after (all p here) (readable_refuses s (λ q m. all q (there m)))
 

@@ -103,13 +103,13 @@ module _ {R : ℕ} {kinds : List Kind} {records : List ℕ} where
       in-put (GivesAt R kinds records cs) (element_gives R kinds records cs p i f q (g ∙ ap gives x)) (gathers_fields cs (k + 1) r.rest a (cc) r.are_rest (omega arith))
 
   -- and the other way round
-  pub fields_gather : (cs : List Content) (k m : ℕ) {t : Trace} {n : ℕ} → EndsWith n t → elements_put t ≡ numbers_from k m → k + m ≡ length cs
+  pub fields_gather : {n : ℕ} (cs : List Content) (k m : ℕ) {t : Trace} → EndsWith n t → elements_put t ≡ numbers_from k m → k + m ≡ length cs
       → ((p : Placement) → In p t → GivesAt R kinds records cs p) → Gathers R kinds records t (drop k cs) n
   unfolding elements_put
   fields_gather cs k m EndsWith.here e l all =
       let z = no_number k m e in
       rw (drop_of_length-le cs {i = k} (omega arith)) Gathers.ends
-  fields_gather cs k m {n} (EndsWith.there {p} {t} h) e l all =
+  fields_gather {n} cs k m (EndsWith.there {p} {t} h) e l all =
       put_fields R kinds records cs k m p t n (all p here) e l (λ j r g u. fields_gather cs j r h g u (λ s v. all s (there v)))
 
   -- where the fields suit their elements, the contents have their kinds
