@@ -1,0 +1,17 @@
+use native.Mathlib.Omega.{arith}
+use borrow.Author.Rules.{rules}
+use Rattle.sheet_walk.proofs.WidthLaws.{width_none, width_over}
+use Rattle.sheet_read.proofs.ReadLaws.{width_refuses}
+use Rattle.sheet_read.proofs.formats.read_numbers.Goals as goal
+
+pub returns-then-width-lt1 : goal.returns-then-width-lt1
+returns-then-width-lt1 c = let a = c in record { read = width_refuses a.args.width a.args.format.now a.args.check a.args.kinds.now a.args.room a.args.records.now (width_none a.args.width c.if-width-lt1.true) }
+
+pub returns-then-width-gt-WIDEST_RECORD : goal.returns-then-width-gt-WIDEST_RECORD
+returns-then-width-gt-WIDEST_RECORD c = let a = c in record { read = width_refuses a.args.width a.args.format.now a.args.check a.args.kinds.now a.args.room a.args.records.now (width_over a.args.width (omega (arith, c.if-width-lt1.false)) c.if-width-gt-WIDEST_RECORD.true) }
+
+pub read_small-requires : goal.read_small-requires
+read_small-requires c = (record { from = omega (arith, c.if-width-lt1.false); to = omega (arith, c.if-width-gt-WIDEST_RECORD.false) }, search rules, search rules, search rules)
+
+pub returns : goal.returns
+returns c = c.read_small.ensures

@@ -1,0 +1,19 @@
+use mathlib.Core.Path.{sym}
+use lib.Seq.{length-take-le}
+use Rattle.sheet_write.proofs.WriteLaws.{format_refuses}
+use Rattle.sheet_write.proofs.formats.write_apart.Goals as goal
+
+pub slice_bounds-run-end : goal.slice_bounds-run-end
+slice_bounds-run-end c = (rw c.in-Run.is at c.load.ensures).0
+
+pub slice_bounds-write_loaded-end : goal.slice_bounds-write_loaded-end
+slice_bounds-write_loaded-end c = sym (length-take-le _ _ (rw c.in-Run.is at c.load.ensures).0)
+
+pub write_loaded-requires : goal.write_loaded-requires
+write_loaded-requires c = let a = c in (a.requires.0, record { format = a.args.format.now; held = (rw c.in-Run.is at c.load.ensures).1 }, a.requires.1)
+
+pub returns-in-Refused : goal.returns-in-Refused
+returns-in-Refused c = let a = c in record { wrote = λ vs l. format_refuses a.args.width a.args.format.now a.args.check a.requires.0 (rw c.in-Refused.is at c.load.ensures) }
+
+pub returns-in-Run : goal.returns-in-Run
+returns-in-Run c = let a = c in record { wrote = λ vs l. c.write_loaded.ensures.wrote vs a.args.format.now (rw c.in-Run.is at c.load.ensures).1 l }
