@@ -5,7 +5,6 @@ use lib.ListN.{length, get_or, length-set}
 use borrow.Author.Tests.{not-true, not-false}
 use Rattle.list_elements.specs.Elements.{value_of, zero_value, values}
 use Rattle.list_elements.specs.Limits.{may_be_wanted}
-use Rattle.list_elements.specs.Apart.{kind_number}
 use Rattle.list_elements.proofs.ApartLaws.{wanted_small, bad_not_good}
 use Rattle.list_elements.proofs.Taking.{any_map, values_length, element_is, checked_none, checked_more, checked_bad, checked_good, filled_none, filled_more, filled_all, check_bad, check_many, check_fine}
 use Rattle.list_elements.proofs.wanted.take_kinds.Goals as goal
