@@ -54,7 +54,7 @@ pub read_items-returns-then-b-eq41 : goal.read_items-returns-then-b-eq41
 read_items-returns-then-b-eq41 t c = so_far_closed c.loop-place.invariant (rw c.in-Read.is at c.read_item.ensures) (omega (arith, c.if-text-next.false)) c.read_item.auto.entries c.read_item.auto.chars c.if-b-eq41.true
 
 pub read_items-returns-then-b-ne44 : goal.read_items-returns-then-b-ne44
-read_items-returns-then-b-ne44 t c = so_far_other c.loop-place.invariant (rw c.in-Read.is at c.read_item.ensures) (omega (arith, c.if-text-next.false)) c.if-b-eq41.false c.if-b-ne44.true
+read_items-returns-then-b-ne44 t c = so_far_other c.loop-place.invariant (rw c.in-Read.is at c.read_item.ensures) (omega (arith, c.if-text-next.false)) c.if-b-eq41.false (λ e. omega (arith, e))
 
 pub read_items-loop-place-smaller : goal.read_items-loop-place-smaller
 read_items-loop-place-smaller t c = let k = rw c.in-Read.is at c.read_item.ensures in omega (arith, k.more, c.if-text-next.false)
@@ -66,4 +66,4 @@ pub read_items-read_item-requires : goal.read_items-read_item-requires
 read_items-read_item-requires t c = (omega arith, (c.loop-place.invariant.room, omega (arith, c.requires.1, c.loop-place.invariant.long_chars)))
 
 pub read_items-loop-place-preserved : goal.read_items-loop-place-preserved
-read_items-loop-place-preserved t c = so_far_more c.loop-place.invariant (rw c.in-Read.is at c.read_item.ensures) (omega (arith, c.if-text-next.false)) c.read_item.auto.entries c.read_item.auto.chars c.if-b-ne44.false
+read_items-loop-place-preserved t c = so_far_more c.loop-place.invariant (rw c.in-Read.is at c.read_item.ensures) (omega (arith, c.if-text-next.false)) c.read_item.auto.entries c.read_item.auto.chars (omega arith)

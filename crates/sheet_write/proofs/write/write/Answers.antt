@@ -22,14 +22,14 @@ few c =
 
 -- row 1 is passed
 right : (c : Else-width-gt-WIDEST_RECORD) → WidthRight c.args.width
-right c = record { from = omega (arith, c.if-width-lt1.false); to = omega (arith, c.if-width-gt-WIDEST_RECORD.false) }
+right c = record { from = omega arith; to = omega arith }
 
 pub returns-then-width-lt1 : goal.returns-then-width-lt1
-returns-then-width-lt1 c = let clauses = let a = c in promised (width_refuses a.args.width a.args.format.now (list_check a.args.area.now a.args.list) (width_none a.args.width c.if-width-lt1.true)) in
+returns-then-width-lt1 c = let clauses = let a = c in promised (width_refuses a.args.width a.args.format.now (list_check a.args.area.now a.args.list) (width_none a.args.width (omega arith))) in
     record { answers = clauses.0; bytes = clauses.1.0; number = clauses.1.1.0; place = clauses.1.1.1.0; records = clauses.1.1.1.1.0; starred = clauses.1.1.1.1.1 }
 
 pub returns-then-width-gt-WIDEST_RECORD : goal.returns-then-width-gt-WIDEST_RECORD
-returns-then-width-gt-WIDEST_RECORD c = let clauses = let a = c in promised (width_refuses a.args.width a.args.format.now (list_check a.args.area.now a.args.list) (width_over a.args.width (omega (arith, c.if-width-lt1.false)) c.if-width-gt-WIDEST_RECORD.true)) in
+returns-then-width-gt-WIDEST_RECORD c = let clauses = let a = c in promised (width_refuses a.args.width a.args.format.now (list_check a.args.area.now a.args.list) (width_over a.args.width (omega arith) (omega arith))) in
     record { answers = clauses.0; bytes = clauses.1.0; number = clauses.1.1.0; place = clauses.1.1.1.0; records = clauses.1.1.1.1.0; starred = clauses.1.1.1.1.1 }
 
 pub slice_bounds-kinds-end : goal.slice_bounds-kinds-end
