@@ -13,7 +13,6 @@ use lib.Seq.{take_all}
 use Rattle.number.specs.Limits.{largest}
 use Rattle.number.specs.Digits.{is_digit}
 use Rattle.number.specs.Magnitude.{with_sign}
-use Rattle.list_elements.specs.declared.Value.{Value}
 use Rattle.list_elements.specs.declared.Value.TheVariants.{Integer, Decimal, Logical, Text}
 use Rattle.list_text.specs.ElementLines.{some_digits, has_minus, is_number, number_of, malformed, integer_line, units_part, decimal_line, logical_line, begins, element_on}
 use Rattle.list_text.specs.Steps.{digits_read, number_read}

@@ -12,7 +12,7 @@ use Rattle.format_words.specs.Words.{met_of}
 use Rattle.list_elements.specs.Apart.{kind_from}
 use Rattle.list_elements.proofs.ApartLaws.{kinds_from}
 use Rattle.list_elements.specs.declared.Value.{Value}
-use Rattle.sheet_walk.specs.Steps.{literal, Placement}
+use Rattle.sheet_walk.specs.Steps.{Placement}
 use Rattle.sheet_walk.specs.Walk.{Trace, put, walk}
 use Rattle.sheet_walk.specs.Turns.{what_of, WordCovers, sheet_of}
 use Rattle.sheet_walk.specs.declared.Refusal.TheVariants.{TooLarge}

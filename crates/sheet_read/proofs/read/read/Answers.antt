@@ -5,7 +5,6 @@ use lib.ListN.{length, take}
 use lib.Seq.{length-take-le}
 use Rattle.list_elements.specs.Limits.{may_be_wanted}
 use Rattle.list_elements.proofs.ApartLaws.{usable_few}
-use Rattle.sheet_read.specs.Promises.{Call}
 use Rattle.sheet_read.proofs.Whole.{Giving, giving, given_few, finished}
 use borrow.Author.Rules.{rules}
 use Rattle.sheet_read.proofs.read.read.Goals as goal
