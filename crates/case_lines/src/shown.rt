@@ -1,63 +1,67 @@
 // What is printed of an answer.
-use libc::STDOUT_FILENO;
 use list_elements::List;
 use number::sign::magnitude;
+use std::io;
 
 // A number after some letters.
-pub fn lettered(letters: &[u8], n: u64) {
-    io::write_all(STDOUT_FILENO, letters);
-    io::print_decimal(STDOUT_FILENO, n);
+pub fn lettered(rt: &impl Print, letters: &[u8], n: u64) -> io::Result<()> {
+    rt.write_all(letters)?;
+    rt.print(n)
 }
 
 // Some letters, where something is so.
-pub fn show_if(so: bool, letters: &[u8]) {
+pub fn show_if(rt: &impl Print, so: bool, letters: &[u8]) -> io::Result<()> {
     if so {
-        io::write_all(STDOUT_FILENO, letters);
+        return rt.write_all(letters);
     }
+    Ok(())
 }
 
 // A signed number after some letters; words for one whose magnitude is too large for a list.
-pub fn lettered_signed(letters: &[u8], n: i64) {
-    io::write_all(STDOUT_FILENO, letters);
+pub fn lettered_signed(rt: &impl Print, letters: &[u8], n: i64) -> io::Result<()> {
+    rt.write_all(letters)?;
     if List::LARGEST < n {
-        io::write_all(STDOUT_FILENO, b"too large");
-        return;
+        return rt.write_all(b"too large");
     }
     if -List::LARGEST <= n {
-        show_if(n < 0, b"-");
-        io::print_decimal(STDOUT_FILENO, magnitude(n));
-        return;
+        show_if(rt, n < 0, b"-")?;
+        return rt.print(magnitude(n));
     }
-    io::write_all(STDOUT_FILENO, b"too small");
+    rt.write_all(b"too small")
 }
 
 // A refusal's number and place.
-pub fn show_refused(number: u64, place: usize) {
-    lettered(b"refused ", number);
-    lettered(b" ", place as u64);
+pub fn show_refused(rt: &impl Print, number: u64, place: usize) -> io::Result<()> {
+    lettered(rt, b"refused ", number)?;
+    lettered(rt, b" ", place as u64)
 }
 
 // The counts of an accepted sheet.
-pub fn show_counts(records: usize, starred: usize) {
-    lettered(b"records ", records as u64);
-    lettered(b" starred ", starred as u64);
+pub fn show_counts(rt: &impl Print, records: usize, starred: usize) -> io::Result<()> {
+    lettered(rt, b"records ", records as u64)?;
+    lettered(rt, b" starred ", starred as u64)
 }
 
 // Bytes between bars.
-pub fn show_bytes(bytes: &[u8]) {
-    io::write_all(STDOUT_FILENO, b" |");
-    io::write_all(STDOUT_FILENO, bytes);
-    io::write_all(STDOUT_FILENO, b"|");
+pub fn show_bytes(rt: &impl Print, bytes: &[u8]) -> io::Result<()> {
+    rt.write_all(b" |")?;
+    rt.write_all(bytes)?;
+    rt.write_all(b"|")
 }
 
 // The end of a line.
-pub fn show_line_end() {
-    io::write_all(STDOUT_FILENO, b"\n");
+pub fn show_line_end(rt: &impl Print) -> io::Result<()> {
+    rt.write_all(b"\n")
 }
 
 // An accepted writing on a line: the counts, and the whole buffer.
-pub fn show_records(records: usize, starred: usize, buffer: &[u8]) {
-    show_counts(records, starred);
-    show_bytes(buffer);
-    show_line_end();
+pub fn show_records(
+    rt: &impl Print,
+    records: usize,
+    starred: usize,
+    buffer: &[u8],
+) -> io::Result<()> {
+    show_counts(rt, records, starred)?;
+    show_bytes(rt, buffer)?;
+    show_line_end(rt)
 }

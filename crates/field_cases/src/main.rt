@@ -4,11 +4,13 @@
 mod read;
 mod written;
 
-fn main() {
-    written::integers();
-    written::decimals();
-    written::limits();
-    read::integers();
-    read::decimals();
-    read::refused();
+use std::io;
+
+fn main(rt: HostRuntime) -> io::Result<()> {
+    written::integers(&rt)?;
+    written::decimals(&rt)?;
+    written::limits(&rt)?;
+    read::integers(&rt)?;
+    read::decimals(&rt)?;
+    read::refused(&rt)
 }

@@ -2,25 +2,25 @@
 use crate::answers::show_check;
 use crate::runs::show_run;
 use list_text::lines::line_end;
+use std::io;
 
 // One case.
-fn show_line(line: &[u8]) {
+fn show_line(rt: &impl Print, line: &[u8]) -> io::Result<()> {
     if line.len() == 0 {
-        show_check(line);
-        return;
+        return show_check(rt, line);
     }
     if line[0] == b'=' {
-        show_run(&line[1..]);
-        return;
+        return show_run(rt, &line[1..]);
     }
-    show_check(line);
+    show_check(rt, line)
 }
 
-pub fn each_line(text: &[u8]) {
+pub fn each_line(rt: &impl Print, text: &[u8]) -> io::Result<()> {
     let mut from: usize = 0;
     while from < text.len() {
         let end = line_end(text, from);
-        show_line(&text[from..end]);
+        show_line(rt, &text[from..end])?;
         from = end + 1;
     }
+    Ok(())
 }

@@ -6,12 +6,12 @@ mod answers;
 mod lines;
 mod runs;
 
-use libc::STDIN_FILENO;
+use std::io;
 
-fn main() {
-    let mut input = io::large_buffer();
-    let n = io::read_full(STDIN_FILENO, &mut input);
-    lines::each_line(&input[..n]);
-    answers::show_check(b"(I4\n)");
-    answers::show_check(b"('A\nB')");
+fn main(rt: HostRuntime) -> io::Result<()> {
+    let mut input = [0u8; 65536];
+    let n = case_lines::input::read_full(&mut rt.stdin(), &mut input)?;
+    lines::each_line(&rt, &input[..n])?;
+    answers::show_check(&rt, b"(I4\n)")?;
+    answers::show_check(&rt, b"('A\nB')")
 }

@@ -10,58 +10,58 @@ use format_run::unroll::unroll;
 use format_words::{
     FIRST_BASE, KIND_A, KIND_AW, KIND_BASE, KIND_F, KIND_I, KIND_L, KIND_SLASH, KIND_T, KIND_X,
 };
-use libc::STDOUT_FILENO;
+use std::io;
 
 // A literal's characters.
-fn show_literal(chars: &[u8], start: usize, count: usize) {
-    io::write_all(STDOUT_FILENO, b"<");
+fn show_literal(rt: &impl Print, chars: &[u8], start: usize, count: usize) -> io::Result<()> {
+    rt.write_all(b"<")?;
     if start <= chars.len() {
         if count <= chars.len() - start {
-            io::write_all(STDOUT_FILENO, &chars[start..start + count]);
+            rt.write_all(&chars[start..start + count])?;
         }
     }
-    io::write_all(STDOUT_FILENO, b">");
+    rt.write_all(b">")
 }
 
 // One item met.
-fn show_word(w: u64, chars: &[u8]) {
+fn show_word(rt: &impl Print, w: u64, chars: &[u8]) -> io::Result<()> {
     let kind = w % KIND_BASE;
     let first = w / KIND_BASE % FIRST_BASE;
     let second = w / KIND_BASE / FIRST_BASE;
-    io::write_all(STDOUT_FILENO, b" ");
+    rt.write_all(b" ")?;
     if kind == KIND_I {
-        lettered(b"I", first);
+        lettered(rt, b"I", first)
     } else if kind == KIND_F {
-        lettered(b"F", first);
-        lettered(b".", second);
+        lettered(rt, b"F", first)?;
+        lettered(rt, b".", second)
     } else if kind == KIND_L {
-        lettered(b"L", first);
+        lettered(rt, b"L", first)
     } else if kind == KIND_A {
-        io::write_all(STDOUT_FILENO, b"A");
+        rt.write_all(b"A")
     } else if kind == KIND_AW {
-        lettered(b"A", first);
+        lettered(rt, b"A", first)
     } else if kind == KIND_X {
-        io::print_decimal(STDOUT_FILENO, first);
-        io::write_all(STDOUT_FILENO, b"X");
+        rt.print(first)?;
+        rt.write_all(b"X")
     } else if kind == KIND_T {
-        lettered(b"T", first);
+        lettered(rt, b"T", first)
     } else if kind == KIND_SLASH {
-        io::write_all(STDOUT_FILENO, b"/");
+        rt.write_all(b"/")
     } else {
-        show_literal(chars, first as usize, second as usize);
+        show_literal(rt, chars, first as usize, second as usize)
     }
 }
 
 // The first n words of a run.
-fn show_words(run: &[u64], n: usize, chars: &[u8])
+fn show_words(rt: &impl Print, run: &[u64], n: usize, chars: &[u8]) -> io::Result<()>
     requires { n ≤ length run.now }
 {
     let mut i: usize = 0;
     while i < n {
-        show_word(run[i], chars);
+        show_word(rt, run[i], chars)?;
         i += 1;
     }
-    io::write_all(STDOUT_FILENO, b"\n");
+    rt.write_all(b"\n")
 }
 
 // Room for the largest run.
@@ -72,30 +72,27 @@ fn empty_run() -> [u64; 4096]
 }
 
 // The items met of a format of at most 1,024 bytes.
-fn show_items(format: &[u8])
+fn show_items(rt: &impl Print, format: &[u8]) -> io::Result<()>
     requires { length format.now ≤ 1024 }
 {
     let mut entries = [0u64; 1024];
     let mut chars = [0u8; 1024];
     let mut run = empty_run();
     match check_items(format, &mut entries, &mut chars) {
-        ItemsChecked::Refused(_) => {
-            io::write_all(STDOUT_FILENO, b"refused\n");
-        }
+        ItemsChecked::Refused(_) => rt.write_all(b"refused\n"),
         ItemsChecked::Items { entries: n, size } => {
             let u = unroll(&entries, 0, n, LEVELS, &mut run, 0);
-            lettered(b"size ", size as u64);
-            lettered(b" return ", u.back as u64);
-            io::write_all(STDOUT_FILENO, b":");
-            show_words(&run, u.end, &chars);
+            lettered(rt, b"size ", size as u64)?;
+            lettered(rt, b" return ", u.back as u64)?;
+            rt.write_all(b":")?;
+            show_words(rt, &run, u.end, &chars)
         }
     }
 }
 
-pub fn show_run(format: &[u8]) {
+pub fn show_run(rt: &impl Print, format: &[u8]) -> io::Result<()> {
     if LONGEST_FORMAT < format.len() {
-        io::write_all(STDOUT_FILENO, b"refused\n");
-        return;
+        return rt.write_all(b"refused\n");
     }
-    show_items(format);
+    show_items(rt, format)
 }

@@ -19,10 +19,10 @@ mod cases;
 mod records;
 mod values;
 
-use libc::STDIN_FILENO;
+use std::io;
 
-fn main() {
-    let mut input = io::large_buffer();
-    let n = io::read_full(STDIN_FILENO, &mut input);
-    cases::each_case(&input[..n]);
+fn main(rt: HostRuntime) -> io::Result<()> {
+    let mut input = [0u8; 65536];
+    let n = case_lines::input::read_full(&mut rt.stdin(), &mut input)?;
+    cases::each_case(&rt, &input[..n])
 }

@@ -1,46 +1,47 @@
 // The values of a list.
 use case_lines::shown::{lettered, lettered_signed};
-use libc::STDOUT_FILENO;
 use list_elements::apart::looked_at;
 use list_elements::{Decimal, List, Text, Value};
+use std::io;
 
-fn show_decimal(decimal: Decimal) {
-    lettered_signed(b" D ", decimal.units);
-    lettered(b" ", decimal.places as u64);
+fn show_decimal(rt: &impl Print, decimal: Decimal) -> io::Result<()> {
+    lettered_signed(rt, b" D ", decimal.units)?;
+    lettered(rt, b" ", decimal.places as u64)
 }
 
-fn show_logical(truth: bool) {
+fn show_logical(rt: &impl Print, truth: bool) -> io::Result<()> {
     if truth {
-        io::write_all(STDOUT_FILENO, b" L T");
+        rt.write_all(b" L T")
     } else {
-        io::write_all(STDOUT_FILENO, b" L F");
+        rt.write_all(b" L F")
     }
 }
 
-fn show_text(text: Text) {
-    lettered(b" A ", text.start as u64);
-    lettered(b" ", text.len as u64);
+fn show_text(rt: &impl Print, text: Text) -> io::Result<()> {
+    lettered(rt, b" A ", text.start as u64)?;
+    lettered(rt, b" ", text.len as u64)
 }
 
-fn show_value(value: Value) {
+fn show_value(rt: &impl Print, value: Value) -> io::Result<()> {
     match value {
-        Value::Integer(n) => lettered_signed(b" I ", n),
-        Value::Decimal(d) => show_decimal(d),
-        Value::Logical(b) => show_logical(b),
-        Value::Text(t) => show_text(t),
+        Value::Integer(n) => lettered_signed(rt, b" I ", n),
+        Value::Decimal(d) => show_decimal(rt, d),
+        Value::Logical(b) => show_logical(rt, b),
+        Value::Text(t) => show_text(rt, t),
     }
 }
 
 // The values before the count.
-pub fn show_values(list: List) {
+pub fn show_values(rt: &impl Print, list: List) -> io::Result<()> {
     let n = looked_at(list.count);
     let mut i: usize = 0;
     while i < n {
         let e = list.elements[i];
         let v = e.value;
-        show_value(v);
+        show_value(rt, v)?;
         i += 1;
     }
+    Ok(())
 }
 
 // Whether a value is integer 0.
