@@ -1,4 +1,4 @@
-// The console host's calls, for C: numbers and byte slices.
+// The console host's calls, for C: numbers and byte slices. A library exports nothing: the crate console_c exports these.
 #![tactic(auto)]
 
 mod answers;

@@ -1,0 +1,31 @@
+// The console host's calls, exported to C: those of the crate console, with its promises.
+#![tactic(auto)]
+
+ghost use Rattle.std.specs.Prelude.{◌≡◌};
+ghost use Rattle.format_grammar.specs.Check.{outcome};
+ghost use Rattle.format_check.specs.Checked.{answer};
+ghost use Rattle.sheet_text.specs.FromListText.{answer_from, buffer_from};
+ghost use Rattle.console.specs.HostAnswers.{host_write_number, host_check_number};
+
+// Writes the list of a list text under the format into records of this width in the buffer. Answers the number of records
+// written, or the refusal's number negated; the buffer is then as it was.
+#[unsafe(no_mangle)]
+pub extern "C" fn trimsheet_write(
+    width: usize,
+    format: &[u8],
+    text: &[u8],
+    records: &mut [u8],
+) -> i64
+    ensures answers { result ≡ host_write_number (answer_from width format.now text.now records.old) }
+    ensures bytes { records.new ≡ buffer_from width format.now text.now records.old }
+{
+    console::trimsheet_write(width, format, text, records)
+}
+
+// Checks a format. Answers 0 where it is accepted, or the refusal's number negated.
+#[unsafe(no_mangle)]
+pub extern "C" fn trimsheet_check(format: &[u8]) -> i64
+    ensures { result ≡ host_check_number (answer (outcome format.now)) }
+{
+    console::trimsheet_check(format)
+}
