@@ -1,8 +1,7 @@
-// What the test programs share: their input, the lines of a text, the numbers and elements in them, and what is printed.
+// What the test programs share: the lines of a text, the numbers and elements in them, and what is printed.
 #![tactic(auto)]
 
 pub mod elements;
-pub mod input;
 pub mod lines;
 pub mod marks;
 pub mod numbers;

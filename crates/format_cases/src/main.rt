@@ -10,7 +10,7 @@ use std::io;
 
 fn main(rt: HostRuntime) -> io::Result<()> {
     let mut input = [0u8; 65536];
-    let n = case_lines::input::read_full(&mut rt.stdin(), &mut input)?;
+    let n = input_bytes::read_full(&mut rt.stdin(), &mut input)?;
     lines::each_line(&rt, &input[..n])?;
     answers::show_check(&rt, b"(I4\n)")?;
     answers::show_check(&rt, b"('A\nB')")

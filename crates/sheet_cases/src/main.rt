@@ -11,6 +11,6 @@ use std::io;
 
 fn main(rt: HostRuntime) -> io::Result<()> {
     let mut input = [0u8; 65536];
-    let n = case_lines::input::read_full(&mut rt.stdin(), &mut input)?;
+    let n = input_bytes::read_full(&mut rt.stdin(), &mut input)?;
     cases::each_case(&rt, &input[..n])
 }
