@@ -1,3 +1,4 @@
+-- i bytes are copied.
 use Prim.Native.Nat.{◌-◌}
 use lib.ListN.{take, drop}
 use Rattle.buffer.proofs.Splicing.{Written}

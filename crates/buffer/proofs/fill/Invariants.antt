@@ -1,3 +1,4 @@
+-- i bytes are written.
 use Prim.Native.Nat.{◌-◌}
 use lib.ListN.{replicate}
 use Rattle.buffer.proofs.Splicing.{Written}

@@ -1,3 +1,4 @@
+-- No byte is written, the first one, or both.
 use mathlib.Core.List.{List}
 use Prim.Native.Nat.{ℕ, ◌+◌, ◌<◌, ◌≤◌}
 use native.Mathlib.Nat.{add-zero}
@@ -19,10 +20,10 @@ pub returns-then-n-lt2 : goal.returns-then-n-lt2
 returns-then-n-lt2 c = written_all (one_written _ _ _ _ c.requires.0 (omega arith)) (omega arith)
 
 pub bounds-dst-at-2 : goal.bounds-dst-at-2
-bounds-dst-at-2 c = let a = c in omega (arith, length-set {A = ℕ} a.args.dst.now a.args.at a.args.b)
+bounds-dst-at-2 c = omega (arith, length-set {A = ℕ} c.args.dst.now c.args.at c.args.b)
 
 pub returns : goal.returns
-returns c = let a = c in
-    let l : 1 < a.args.n = omega arith in
-    let w = one_written _ _ _ a.args.b a.requires.0 (omega arith) in
+returns c =
+    let l : 1 < c.args.n = omega arith in
+    let w = one_written _ _ _ c.args.b c.requires.0 (omega arith) in
     written_all (written_more _ w l (get_or-replicate _ _ _ _ l)) (omega arith)

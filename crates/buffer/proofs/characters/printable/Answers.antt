@@ -8,11 +8,11 @@ loop-i-init c = passed_none c.requires
 
 pub returns-then-not-is_printable : goal.returns-then-not-is_printable
 returns-then-not-is_printable c = let l = c.loop-i in
-    passed_not l.invariant c.loop-i-test.true (sym c.is_printable.ensures ∙ not-true _ c.if-not-is_printable.true-raw)
+    passed_not l.invariant c.loop-i-test.true (sym c.is_printable.ensures ∙ c.if-not-is_printable.true)
 
 pub loop-i-preserved : goal.loop-i-preserved
 loop-i-preserved c = let l = c.loop-i in
-    passed_more l.invariant c.loop-i-test.true (sym c.is_printable.ensures ∙ not-false _ c.if-not-is_printable.false-raw)
+    passed_more l.invariant c.loop-i-test.true (sym c.is_printable.ensures ∙ c.if-not-is_printable.false)
 
 pub returns : goal.returns
 returns c = passed_all c.loop-i.invariant c.loop-i-test.false

@@ -1,3 +1,4 @@
+-- The first i bytes are printable.
 use Prim.Native.Nat.{◌-◌}
 use Rattle.buffer.proofs.PrintableBytes.{Passed}
 use Rattle.buffer.proofs.characters.printable.Given as goal

@@ -37,40 +37,31 @@ pub read_run-requires-in-Digits : goal.read_run-requires-in-Digits
 read_run-requires-in-Digits c = (omega arith, (found (goal.at.read_run-requires-in-Digits c).In-Digits).run.low)
 
 pub returns-then-end-part : goal.returns-then-end-part
-returns-then-end-part c = let t = c in
-    let i = t in
-    let k = i in
+returns-then-end-part c =
     fraction_stopped c.args.sign _ (found (goal.at.returns-then-end-part c).In-Digits).run.all (whole (goal.at.returns-then-end-part c).In-Digits) (fraction (goal.at.returns-then-end-part c).In-Digits-read_run) c.if-end-part.true
-    ∙ units_pointed c.args.sign c.args.d (found (goal.at.returns-then-end-part c).In-Digits) i.if-part-next.false i.if-part-next-ne46.false
+    ∙ units_pointed c.args.sign c.args.d (found (goal.at.returns-then-end-part c).In-Digits) c.if-part-next.false c.if-part-next-ne46.false
 
 pub returns-then-places-gt-MOST_PLACES : goal.returns-then-places-gt-MOST_PLACES
-returns-then-places-gt-MOST_PLACES c = let t = c in
-    let i = t in
-    let k = i in
+returns-then-places-gt-MOST_PLACES c =
     fraction_long c.args.sign _ (found (goal.at.returns-then-places-gt-MOST_PLACES c).In-Digits).run.all (whole (goal.at.returns-then-places-gt-MOST_PLACES c).In-Digits) (fraction (goal.at.returns-then-places-gt-MOST_PLACES c).In-Digits-read_run) c.if-end-part.false c.if-places-gt-MOST_PLACES.true
-    ∙ units_pointed c.args.sign c.args.d (found (goal.at.returns-then-places-gt-MOST_PLACES c).In-Digits) i.if-part-next.false i.if-part-next-ne46.false
+    ∙ units_pointed c.args.sign c.args.d (found (goal.at.returns-then-places-gt-MOST_PLACES c).In-Digits) c.if-part-next.false c.if-part-next-ne46.false
 
 pub overflow_add-count : goal.overflow_add-count
-overflow_add-count c = let t = c in
-    let k = t in
-    omega (arith, (found (goal.at.overflow_add-count c).In-Digits).run.fewer, (found (goal.at.overflow_add-count c).In-Digits).run.past)
+overflow_add-count c = omega (arith, (found (goal.at.overflow_add-count c).In-Digits).run.fewer, (found (goal.at.overflow_add-count c).In-Digits).run.past)
 
 pub number_of-requires-in-Digits-read_run : goal.number_of-requires-in-Digits-read_run
 number_of-requires-in-Digits-read_run c = (fraction (goal.at.number_of-requires-in-Digits-read_run c).In-Digits-read_run).run.low
 
 pub returns-else-places-gt-MOST_PLACES : goal.returns-else-places-gt-MOST_PLACES
-returns-else-places-gt-MOST_PLACES c = let t = c in
-    let i = t in
-    let k = i in
+returns-else-places-gt-MOST_PLACES c =
     c.number_of-in-Digits-read_run.ensures
     ∙ fraction_ended c.args.sign _ (found (goal.at.returns-else-places-gt-MOST_PLACES c).In-Digits).run.all (whole (goal.at.returns-else-places-gt-MOST_PLACES c).In-Digits) (found (goal.at.returns-else-places-gt-MOST_PLACES c).In-Digits).run.many (fraction (goal.at.returns-else-places-gt-MOST_PLACES c).In-Digits-read_run) c.if-end-part.false c.if-places-gt-MOST_PLACES.false
-    ∙ units_pointed c.args.sign c.args.d (found (goal.at.returns-else-places-gt-MOST_PLACES c).In-Digits) i.if-part-next.false i.if-part-next-ne46.false
+    ∙ units_pointed c.args.sign c.args.d (found (goal.at.returns-else-places-gt-MOST_PLACES c).In-Digits) c.if-part-next.false c.if-part-next-ne46.false
 
 pub returns-in-TooLarge-read_run : goal.returns-in-TooLarge-read_run
-returns-in-TooLarge-read_run c = let i = c in
-    let k = i in
+returns-in-TooLarge-read_run c =
     fraction_over c.args.sign _ (found (goal.at.returns-in-TooLarge-read_run c).In-Digits).run.all (whole (goal.at.returns-in-TooLarge-read_run c).In-Digits) (fraction-large (goal.at.returns-in-TooLarge-read_run c).In-TooLarge-read_run)
-    ∙ units_pointed c.args.sign c.args.d (found (goal.at.returns-in-TooLarge-read_run c).In-Digits) i.if-part-next.false i.if-part-next-ne46.false
+    ∙ units_pointed c.args.sign c.args.d (found (goal.at.returns-in-TooLarge-read_run c).In-Digits) c.if-part-next.false c.if-part-next-ne46.false
 
 pub returns-in-TooLarge : goal.returns-in-TooLarge
 returns-in-TooLarge c = units_over c.args.sign c.args.d (whole-large (goal.at.returns-in-TooLarge c).In-TooLarge)

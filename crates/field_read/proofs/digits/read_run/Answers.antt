@@ -21,22 +21,20 @@ pub wide-requires : goal.wide-requires
 wide-requires c = tt
 
 pub overflow_add-value : goal.overflow_add-value
-overflow_add-value c = let l = c in
-    let b = get_or l.args.part.now l.loop-i.i 0 in
+overflow_add-value c =
+    let b = get_or c.args.part.now c.loop-i.i 0 in
     omega (arith, c.wide.ensures, (digit_bounds b (sym c.is_digit.ensures ∙ c.if-is_digit.true)).1)
 
 pub returns-then-value-gt-LARGEST : goal.returns-then-value-gt-LARGEST
-returns-then-value-gt-LARGEST c = let f = c in
-    let t = f in
-    running_over t.loop-i.invariant t.loop-i-test.true f.if-b-eq32.false
+returns-then-value-gt-LARGEST c =
+    running_over c.loop-i.invariant c.loop-i-test.true c.if-b-eq32.false
     (sym c.is_digit.ensures ∙ c.if-is_digit.true)
     (omega (arith, c.wide.ensures))
 
 pub loop-i-preserved : goal.loop-i-preserved
-loop-i-preserved c = let f = c in
-    let t = f in
+loop-i-preserved c =
     rw c.wide.ensures
-    (running_digit t.loop-i.invariant t.loop-i-test.true f.if-b-eq32.false
+    (running_digit c.loop-i.invariant c.loop-i-test.true c.if-b-eq32.false
     (sym c.is_digit.ensures ∙ c.if-is_digit.true)
     (omega (arith, c.wide.ensures)))
 

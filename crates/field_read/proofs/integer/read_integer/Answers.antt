@@ -11,5 +11,4 @@ pub returns-in-Nothing : goal.returns-in-Nothing
 returns-in-Nothing c = read_nothing I _ (subst (FrontIs _) c.in-Nothing.is c.read_front.ensures)
 
 pub returns-in-Found : goal.returns-in-Found
-returns-in-Found c = let b = c in
-    c.read_whole.ensures ∙ sym (signed_reads (subst (FrontIs _) b.in-Found.is b.read_front.ensures) I)
+returns-in-Found c = c.read_whole.ensures ∙ sym (signed_reads (subst (FrontIs _) c.in-Found.is c.read_front.ensures) I)

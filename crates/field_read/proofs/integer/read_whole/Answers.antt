@@ -18,8 +18,7 @@ pub number_of-requires : goal.number_of-requires
 number_of-requires c = (found (goal.at.number_of-requires c).In-Digits).run.low
 
 pub returns-else-next-part : goal.returns-else-next-part
-returns-else-next-part c = let i = c in
-    c.number_of.ensures ∙ whole_ended c.args.sign (found (goal.at.returns-else-next-part c).In-Digits) i.if-next-part.false
+returns-else-next-part c = c.number_of.ensures ∙ whole_ended c.args.sign (found (goal.at.returns-else-next-part c).In-Digits) c.if-next-part.false
 
 pub returns-in-TooLarge : goal.returns-in-TooLarge
 returns-in-TooLarge c = whole_over c.args.sign (over (goal.at.returns-in-TooLarge c).In-TooLarge)

@@ -5,13 +5,10 @@ pub returns-then-part-at : goal.returns-then-part-at
 returns-then-part-at c = front_nothing c.skip_blanks-at.ensures c.if-part-at.true
 
 pub returns-then-b-eq43 : goal.returns-then-b-eq43
-returns-then-b-eq43 c = let i = c in
-    front_plus i.skip_blanks-at.ensures i.if-part-at.false c.if-b-eq43.true
+returns-then-b-eq43 c = front_plus c.skip_blanks-at.ensures c.if-part-at.false c.if-b-eq43.true
 
 pub returns-then-b-eq45 : goal.returns-then-b-eq45
-returns-then-b-eq45 c = let i = c in
-    front_minus i.skip_blanks-at.ensures i.if-part-at.false c.if-b-eq45.true
+returns-then-b-eq45 c = front_minus c.skip_blanks-at.ensures c.if-part-at.false c.if-b-eq45.true
 
 pub returns : goal.returns
-returns c = let i = c in
-    front_none i.skip_blanks-at.ensures i.if-part-at.false c.if-b-eq43.false c.if-b-eq45.false
+returns c = front_none c.skip_blanks-at.ensures c.if-part-at.false c.if-b-eq43.false c.if-b-eq45.false

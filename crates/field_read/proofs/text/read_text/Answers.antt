@@ -4,15 +4,9 @@ use Rattle.field_read.proofs.LetterReads.{text_taken, text_blanks}
 use Rattle.field_read.proofs.text.read_text.Goals as goal
 
 pub returns-then-m-width : goal.returns-then-m-width
-returns-then-m-width c = let g = c in
-    let i = g in
-    let a = i in
-    rw (← text_taken a.args.m a.args.src.now a.args.from a.args.width a.requires.1 i.if-m-width.true) g.copy.ensures
+returns-then-m-width c = rw (← text_taken c.args.m c.args.src.now c.args.from c.args.width c.requires.1 c.if-m-width.true) c.copy.ensures
 
 pub returns : goal.returns
-returns c = let f = c in
-    let g = f in
-    let i = g in
-    let a = i in
-    rw (← text_blanks a.args.m a.args.src.now a.args.from a.args.width a.requires.1 i.if-m-width.false)
-    (splice_then _ _ _ _ _ _ _ g.copy-2.ensures f.fill.ensures (rw (length_part a.args.src.now a.args.from a.args.width a.requires.1)) (omega (arith, a)))
+returns c =
+    rw (← text_blanks c.args.m c.args.src.now c.args.from c.args.width c.requires.1 c.if-m-width.false)
+    (splice_then _ _ _ _ _ _ _ c.copy-2.ensures c.fill.ensures (rw (length_part c.args.src.now c.args.from c.args.width c.requires.1)) (omega (arith, c)))

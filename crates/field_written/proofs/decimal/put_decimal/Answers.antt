@@ -8,9 +8,8 @@ use Rattle.field_written.proofs.decimal.put_decimal.Goals.{After-shown_digits-k}
 -- the code's numbers show the field
 counted : (c : After-shown_digits-k) → Showing c.args.width c.args.sign c.args.d c.args.m c.sign_width.result c.shown_digits-k.result
 counted c =
-    let a = c in
     decimal_shows
-    record { columns = c.sign_width.ensures.0; needed = a.requires.2; room = a.requires.1; shown = c.shown_digits-k.ensures }
+    record { columns = c.sign_width.ensures.0; needed = c.requires.2; room = c.requires.1; shown = c.shown_digits-k.ensures }
 
 pub overflow_sub-need : goal.overflow_sub-need
 overflow_sub-need c = decimal_rest _ _ _ c.sign_width.ensures.0 c.requires.2
@@ -22,12 +21,10 @@ pub overflow_sub-blanks-2 : goal.overflow_sub-blanks-2
 overflow_sub-blanks-2 c = omega (arith, (counted (goal.at.overflow_sub-blanks-2 c).After-shown_digits-k).fits)
 
 pub put_numeral-requires : goal.put_numeral-requires
-put_numeral-requires c = let k = c in omega (arith, (counted (goal.at.put_numeral-requires c).After-shown_digits-k).fits, k.sign_width.ensures.0)
+put_numeral-requires c = omega (arith, (counted (goal.at.put_numeral-requires c).After-shown_digits-k).fits, c.sign_width.ensures.0)
 
 pub returns : goal.returns
-returns c = let d = c in
-    let f = d in
-    let k = f in
+returns c =
     let w = counted (goal.at.returns c).After-shown_digits-k in
     rw w.is
-    (splice_then _ _ _ _ _ _ _ f.fill.ensures d.put_numeral.ensures (simp length-replicate) (omega (arith, k)))
+    (splice_then _ _ _ _ _ _ _ c.fill.ensures c.put_numeral.ensures (simp length-replicate) (omega (arith, c)))

@@ -20,40 +20,22 @@ pub round-r-requires : goal.round-r-requires
 round-r-requires c = (omega (arith, magnitude-is (goal.at.round-r-requires c).After-magnitude-m), omega arith, omega arith)
 
 pub decimal_columns-need-requires : goal.decimal_columns-need-requires
-decimal_columns-need-requires c = let r = c in
-    let o = r in
-    (omega arith, omega (arith, (units_of _ _ _ (sym o.round-r.ensures ∙ r.in-Units.is)).1, magnitude-is (goal.at.decimal_columns-need-requires c).After-magnitude-m))
+decimal_columns-need-requires c = (omega arith, omega (arith, (units_of _ _ _ (sym c.round-r.ensures ∙ c.in-Units.is)).1, magnitude-is (goal.at.decimal_columns-need-requires c).After-magnitude-m))
 
 pub returns-then-width-need : goal.returns-then-width-need
-returns-then-width-need c = let f = c in
-    let i = f in
-    let n = i in
-    let b = n in
-    let r = b in
-    let o = r in
-    let m = o in
-    let w = decimal_starred m.args.width _ _ _ (magnitude-is (goal.at.returns-then-width-need c).After-magnitude-m) (sym o.round-r.ensures ∙ r.in-Units.is) (negative-is (goal.at.returns-then-width-need c).After-is_negative-negative) (b.minus_if-sign.ensures ∙ ap minus_if b.stays_negative.ensures) n.decimal_columns-need.ensures.0 i.if-width-need.true in
-    (w.0, f.fill.ensures ∙ w.1 _ _)
+returns-then-width-need c =
+    let w = decimal_starred c.args.width _ _ _ (magnitude-is (goal.at.returns-then-width-need c).After-magnitude-m) (sym c.round-r.ensures ∙ c.in-Units.is) (negative-is (goal.at.returns-then-width-need c).After-is_negative-negative) (c.minus_if-sign.ensures ∙ ap minus_if c.stays_negative.ensures) c.decimal_columns-need.ensures.0 c.if-width-need.true in
+    (w.0, c.fill.ensures ∙ w.1 _ _)
 
 pub put_decimal-requires : goal.put_decimal-requires
-put_decimal-requires c = let n = c in
-    let r = n in
-    let o = r in
-    (omega arith, omega arith, n.decimal_columns-need.ensures.0, omega arith, omega (arith, (units_of _ _ _ (sym o.round-r.ensures ∙ r.in-Units.is)).1))
+put_decimal-requires c = (omega arith, omega arith, c.decimal_columns-need.ensures.0, omega arith, omega (arith, (units_of _ _ _ (sym c.round-r.ensures ∙ c.in-Units.is)).1))
 
 pub returns-else-width-need : goal.returns-else-width-need
-returns-else-width-need c = let f = c in
-    let i = f in
-    let n = i in
-    let b = n in
-    let r = b in
-    let o = r in
-    let m = o in
-    let w = decimal_shown m.args.width _ _ _ (magnitude-is (goal.at.returns-else-width-need c).After-magnitude-m) (sym o.round-r.ensures ∙ r.in-Units.is) (negative-is (goal.at.returns-else-width-need c).After-is_negative-negative) (b.minus_if-sign.ensures ∙ ap minus_if b.stays_negative.ensures) n.decimal_columns-need.ensures.0 i.if-width-need.false in
-    (w.0, f.put_decimal.ensures ∙ w.1 _ _)
+returns-else-width-need c =
+    let w = decimal_shown c.args.width _ _ _ (magnitude-is (goal.at.returns-else-width-need c).After-magnitude-m) (sym c.round-r.ensures ∙ c.in-Units.is) (negative-is (goal.at.returns-else-width-need c).After-is_negative-negative) (c.minus_if-sign.ensures ∙ ap minus_if c.stays_negative.ensures) c.decimal_columns-need.ensures.0 c.if-width-need.false in
+    (w.0, c.put_decimal.ensures ∙ w.1 _ _)
 
 pub returns-in-TooLarge : goal.returns-in-TooLarge
-returns-in-TooLarge c = let o = c in
-    let m = o in
-    let w = decimal_large m.args.width _ _ _ (magnitude-is (goal.at.returns-in-TooLarge c).After-magnitude-m) (sym o.round-r.ensures ∙ c.in-TooLarge.is) in
+returns-in-TooLarge c =
+    let w = decimal_large c.args.width _ _ _ (magnitude-is (goal.at.returns-in-TooLarge c).After-magnitude-m) (sym c.round-r.ensures ∙ c.in-TooLarge.is) in
     (w.0, w.1 _ _)

@@ -14,19 +14,15 @@ pub overflow_sub-k : goal.overflow_sub-k
 overflow_sub-k c = omega (arith, digits (goal.at.overflow_sub-k c).After-sign_width-s)
 
 pub put_sign-requires : goal.put_sign-requires
-put_sign-requires c = let s = c in omega (arith, s.sign_width-s.ensures, digits (goal.at.put_sign-requires c).After-sign_width-s)
+put_sign-requires c = omega (arith, c.sign_width-s.ensures, digits (goal.at.put_sign-requires c).After-sign_width-s)
 
 pub put_digits-requires : goal.put_digits-requires
 put_digits-requires c = omega (arith, digits (goal.at.put_digits-requires c).After-sign_width-s)
 
 pub returns : goal.returns
-returns c = let d = c in
-    let g = d in
-    let f = g in
-    let s = f in
-    let a = s in
-    rw (integer_shows _ _ s.sign_width-s.ensures.0 a.requires.2 a.requires.1)
-    (splice_then _ _ _ _ _ _ _ f.fill.ensures
-    (splice_then _ _ _ _ _ _ _ g.put_sign.ensures d.put_digits.ensures.0 (omega arith) (omega arith))
+returns c =
+    rw (integer_shows _ _ c.sign_width-s.ensures.0 c.requires.2 c.requires.1)
+    (splice_then _ _ _ _ _ _ _ c.fill.ensures
+    (splice_then _ _ _ _ _ _ _ c.put_sign.ensures c.put_digits.ensures.0 (omega arith) (omega arith))
     (simp length-replicate)
-    (omega (arith, a)))
+    (omega (arith, c)))

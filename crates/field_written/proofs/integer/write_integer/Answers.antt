@@ -21,21 +21,14 @@ pub integer_columns-need-requires : goal.integer_columns-need-requires
 integer_columns-need-requires c = omega (arith, magnitude-is (goal.at.integer_columns-need-requires c).After-magnitude-m)
 
 pub returns-then-width-need : goal.returns-then-width-need
-returns-then-width-need c = let f = c in
-    let i = f in
-    let n = i in
-    let m = n in
-    let w = number_starred I m.args.width _ (sign_is (goal.at.returns-then-width-need c).After-minus_if-sign) (magnitude-is (goal.at.returns-then-width-need c).After-magnitude-m) n.integer_columns-need.ensures.0 i.if-width-need.true in
-    (w.0, f.fill.ensures ∙ ap (splice _ _) w.1)
+returns-then-width-need c =
+    let w = number_starred I c.args.width _ (sign_is (goal.at.returns-then-width-need c).After-minus_if-sign) (magnitude-is (goal.at.returns-then-width-need c).After-magnitude-m) c.integer_columns-need.ensures.0 c.if-width-need.true in
+    (w.0, c.fill.ensures ∙ ap (splice _ _) w.1)
 
 pub put_integer-requires : goal.put_integer-requires
-put_integer-requires c = let n = c in
-    (omega arith, omega arith, n.integer_columns-need.ensures.0, omega (arith, magnitude-is (goal.at.put_integer-requires c).After-magnitude-m))
+put_integer-requires c = (omega arith, omega arith, c.integer_columns-need.ensures.0, omega (arith, magnitude-is (goal.at.put_integer-requires c).After-magnitude-m))
 
 pub returns : goal.returns
-returns c = let f = c in
-    let i = f in
-    let n = i in
-    let m = n in
-    let w = number_shown I m.args.width _ (sign_is (goal.at.returns c).After-minus_if-sign) (magnitude-is (goal.at.returns c).After-magnitude-m) n.integer_columns-need.ensures.0 i.if-width-need.false in
-    (w.0, f.put_integer.ensures ∙ ap (splice _ _) w.1)
+returns c =
+    let w = number_shown I c.args.width _ (sign_is (goal.at.returns c).After-minus_if-sign) (magnitude-is (goal.at.returns c).After-magnitude-m) c.integer_columns-need.ensures.0 c.if-width-need.false in
+    (w.0, c.put_integer.ensures ∙ ap (splice _ _) w.1)

@@ -5,15 +5,9 @@ use Rattle.field_written.proofs.Letters.{text_right, text_first}
 use Rattle.field_written.proofs.text.write_text.Goals as goal
 
 pub returns-then-len-width : goal.returns-then-len-width
-returns-then-len-width c = let g = c in
-    let f = g in
-    let i = f in
-    let a = i in
-    rw (← text_right a.args.width a.args.area.now a.args.start a.args.len a.requires.1 i.if-len-width.true)
-    (splice_then _ _ _ _ _ _ _ f.fill.ensures g.copy.ensures (simp length-replicate) (omega (arith, a)))
+returns-then-len-width c =
+    rw (← text_right c.args.width c.args.area.now c.args.start c.args.len c.requires.1 c.if-len-width.true)
+    (splice_then _ _ _ _ _ _ _ c.fill.ensures c.copy.ensures (simp length-replicate) (omega (arith, c)))
 
 pub returns : goal.returns
-returns c = let g = c in
-    let i = g in
-    let a = i in
-    rw (← text_first a.args.width a.args.area.now a.args.start a.args.len a.requires.1 i.if-len-width.false) g.copy-2.ensures
+returns c = rw (← text_first c.args.width c.args.area.now c.args.start c.args.len c.requires.1 c.if-len-width.false) c.copy-2.ensures

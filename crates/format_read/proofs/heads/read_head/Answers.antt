@@ -20,12 +20,12 @@ pub returns-then-at-next : goal.returns-then-at-next
 returns-then-at-next c = mark_after_digits c.read_number-m.ensures (omega (arith, c.if-text-next.false)) c.if-at-next.true (sym c.is_mark.ensures ∙ c.if-is_mark.true) _
 
 pub read_literal_item-requires : goal.read_literal_item-requires
-read_literal_item-requires c = let s = c in
+read_literal_item-requires c =
     let n = c.read_number-m in
-    let same : n.result.next ≡ s.args.p.at = omega (arith, c.if-at-next.false, n.ensures.low) in
+    let same : n.result.next ≡ c.args.p.at = omega (arith, c.if-at-next.false, n.ensures.low) in
     record {
-      room = s.requires;
-      at_in_bounds = (omega (arith, c.if-text-next.false), ap (λ (i : ℕ). get_or s.args.text.now i 0) (sym same), sym c.is_mark.ensures ∙ c.if-is_mark.true);
+      room = c.requires;
+      at_in_bounds = (omega (arith, c.if-text-next.false), ap (λ (i : ℕ). get_or c.args.text.now i 0) (sym same), sym c.is_mark.ensures ∙ c.if-is_mark.true);
     }
 
 pub returns-then-is_mark : goal.returns-then-is_mark

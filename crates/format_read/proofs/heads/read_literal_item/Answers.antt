@@ -3,7 +3,7 @@ use Rattle.format_read.proofs.TakeSteps.{took_literal, literal_wrong}
 use Rattle.format_read.proofs.heads.read_literal_item.Goals as goal
 
 pub read_literal-requires : goal.read_literal-requires
-read_literal-requires c = let s = c in (omega (arith, s.requires.at_in_bounds.0), omega (arith, s.requires.room.0.few_chars), s.requires.room.1, s.requires.room.0.short)
+read_literal-requires c = (omega (arith, c.requires.at_in_bounds.0), omega (arith, c.requires.room.0.few_chars), c.requires.room.1, c.requires.room.0.short)
 
 pub overflow_sub-end : goal.overflow_sub-end
 overflow_sub-end c = let f = rw c.in-Text.is at c.read_literal.ensures in omega (arith, f.end_is)
@@ -29,9 +29,11 @@ pub overflow_add-result : goal.overflow_add-result
 overflow_add-result c = omega (arith, c.requires.room.0.few_entries, c.requires.room.0.within, c.requires.room.0.short)
 
 pub returns-in-Wrong : goal.returns-in-Wrong
-returns-in-Wrong c = let st = rw c.in-Wrong.is at c.read_literal.ensures in
-    let s = c in λ l. literal_wrong _ _ _ _ s.requires.at_in_bounds.0 s.requires.at_in_bounds.1 s.requires.at_in_bounds.2 st l
+returns-in-Wrong c =
+    let st = rw c.in-Wrong.is at c.read_literal.ensures in
+    λ l. literal_wrong _ _ _ _ c.requires.at_in_bounds.0 c.requires.at_in_bounds.1 c.requires.at_in_bounds.2 st l
 
 pub returns-in-Text : goal.returns-in-Text
-returns-in-Text c = let f = rw c.in-Text.is at c.read_literal.ensures in
-    let s = c in λ l. took_literal s.requires.room.0 s.requires.room.1 f s.requires.at_in_bounds.0 s.requires.at_in_bounds.1 s.requires.at_in_bounds.2 l _ c.put_entry.ensures
+returns-in-Text c =
+    let f = rw c.in-Text.is at c.read_literal.ensures in
+    λ l. took_literal c.requires.room.0 c.requires.room.1 f c.requires.at_in_bounds.0 c.requires.at_in_bounds.1 c.requires.at_in_bounds.2 l _ c.put_entry.ensures

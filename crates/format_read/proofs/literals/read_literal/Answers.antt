@@ -38,7 +38,7 @@ pub shape_of-chars-then-not-is_printable : goal.shape_of-chars-then-not-is_print
 shape_of-chars-then-not-is_printable c = c.loop-p.invariant.long
 
 pub returns-then-not-is_printable : goal.returns-then-not-is_printable
-returns-then-not-is_printable c = literal_odd c.loop-p.invariant c.loop-p-test.true c.if-b-m.false (sym c.is_printable.ensures ∙ not-true _ c.if-not-is_printable.true-raw)
+returns-then-not-is_printable c = literal_odd c.loop-p.invariant c.loop-p-test.true c.if-b-m.false (sym c.is_printable.ensures ∙ c.if-not-is_printable.true)
 
 pub bounds-chars-n-else-b-m : goal.bounds-chars-n-else-b-m
 bounds-chars-n-else-b-m c = omega (arith, c.loop-p.invariant.fewer, c.loop-p.invariant.long)
@@ -47,7 +47,7 @@ pub overflow_add-n-else-b-m : goal.overflow_add-n-else-b-m
 overflow_add-n-else-b-m c = omega (arith, c.loop-p.invariant.fewer)
 
 pub loop-p-preserved : goal.loop-p-preserved
-loop-p-preserved c = literal_plain c.loop-p.invariant c.loop-p-test.true c.if-b-m.false (sym c.is_printable.ensures ∙ not-false _ c.if-not-is_printable.false-raw) (omega (arith, c.loop-p.invariant.fewer, c.loop-p.invariant.long))
+loop-p-preserved c = literal_plain c.loop-p.invariant c.loop-p-test.true c.if-b-m.false (sym c.is_printable.ensures ∙ c.if-not-is_printable.false) (omega (arith, c.loop-p.invariant.fewer, c.loop-p.invariant.long))
 
 pub shape_of-chars : goal.shape_of-chars
 shape_of-chars c = c.loop-p.invariant.long

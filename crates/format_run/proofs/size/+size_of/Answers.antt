@@ -8,47 +8,45 @@ pub loop-i-init : goal.loop-i-init
 loop-i-init t c = added_none
 
 pub offset_bounds-entries-i : goal.offset_bounds-entries-i
-offset_bounds-entries-i t c = let l = c in
-    omega (arith, in-entries (held_at l.loop-i.invariant l.requires).holds c.loop-i-test.true)
+offset_bounds-entries-i t c = omega (arith, in-entries (held_at c.loop-i.invariant c.requires).holds c.loop-i-test.true)
 
 pub bounds-entries-i : goal.bounds-entries-i
-bounds-entries-i t c = let l = c in
-    in-entries (held_at l.loop-i.invariant l.requires).holds c.loop-i-test.true
+bounds-entries-i t c = in-entries (held_at c.loop-i.invariant c.requires).holds c.loop-i-test.true
 
 pub overflow_add-mid-then-w-eq-KIND_GROUP : goal.overflow_add-mid-then-w-eq-KIND_GROUP
-overflow_add-mid-then-w-eq-KIND_GROUP t c = let l = c in
-    let h = held_at l.loop-i.invariant l.requires in
+overflow_add-mid-then-w-eq-KIND_GROUP t c =
+    let h = held_at c.loop-i.invariant c.requires in
     let g = as_group h.holds c.loop-i-test.true c.if-w-eq-KIND_GROUP.true in
-    omega (arith, g.before, l.ranges.to)
+    omega (arith, g.before, c.ranges.to)
 
 pub overflow_sub-level : goal.overflow_sub-level
-overflow_sub-level t c = let l = c in
-    let h = held_at l.loop-i.invariant l.requires in
+overflow_sub-level t c =
+    let h = held_at c.loop-i.invariant c.requires in
     let g = as_group h.holds c.loop-i-test.true c.if-w-eq-KIND_GROUP.true in
     g.deep
 
 pub size_of-inside-requires : goal.size_of-inside-requires
-size_of-inside-requires t c = let l = c in
-    let h = held_at l.loop-i.invariant l.requires in
+size_of-inside-requires t c =
+    let h = held_at c.loop-i.invariant c.requires in
     let g = as_group h.holds c.loop-i-test.true c.if-w-eq-KIND_GROUP.true in
     (omega (arith, g.deep), record { t = _; c = _; items = g.inside; holds = g.one })
 
 pub overflow_mul-r : goal.overflow_mul-r
-overflow_mul-r t c = let l = c in
+overflow_mul-r t c =
     omega
-    (arith, product (get_or l.args.entries.now l.loop-i.i 0) c.size_of-inside.result c.size_of-inside.ensures.bounded)
+    (arith, product (get_or c.args.entries.now c.loop-i.i 0) c.size_of-inside.result c.size_of-inside.ensures.bounded)
 
 pub overflow_add-total : goal.overflow_add-total
-overflow_add-total t c = let l = c in
+overflow_add-total t c =
     omega
-    (arith, l.loop-i.invariant.low, product (get_or l.args.entries.now l.loop-i.i 0) c.size_of-inside.result c.size_of-inside.ensures.bounded)
+    (arith, c.loop-i.invariant.low, product (get_or c.args.entries.now c.loop-i.i 0) c.size_of-inside.result c.size_of-inside.ensures.bounded)
 
 pub capped-total-requires : goal.capped-total-requires
 capped-total-requires t c = tt
 
 pub loop-i-preserved-then-w-eq-KIND_GROUP : goal.loop-i-preserved-then-w-eq-KIND_GROUP
-loop-i-preserved-then-w-eq-KIND_GROUP t c = let u = c in
-    added_group u.loop-i.invariant u.loop-i-test.true _ _ u.if-w-eq-KIND_GROUP.true
+loop-i-preserved-then-w-eq-KIND_GROUP t c =
+    added_group c.loop-i.invariant c.loop-i-test.true _ _ c.if-w-eq-KIND_GROUP.true
     c.size_of-inside.ensures.sized c.capped-total.ensures
 
 pub overflow_add-total-else-w-eq-KIND_GROUP : goal.overflow_add-total-else-w-eq-KIND_GROUP
@@ -58,8 +56,7 @@ pub capped-total-requires-else-w-eq-KIND_GROUP : goal.capped-total-requires-else
 capped-total-requires-else-w-eq-KIND_GROUP t c = tt
 
 pub loop-i-preserved : goal.loop-i-preserved
-loop-i-preserved t c = let u = c in
-    added_other u.loop-i.invariant u.loop-i-test.true _ u.if-w-eq-KIND_GROUP.false c.capped-total-else-w-eq-KIND_GROUP.ensures
+loop-i-preserved t c = added_other c.loop-i.invariant c.loop-i-test.true _ c.if-w-eq-KIND_GROUP.false c.capped-total-else-w-eq-KIND_GROUP.ensures
 
 pub returns : goal.returns
 returns t c = record {

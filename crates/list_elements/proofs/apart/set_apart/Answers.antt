@@ -29,11 +29,11 @@ pub bounds-list-i : goal.bounds-list-i
 bounds-list-i c = omega (arith, few (goal.at.bounds-list-i c).Start, full (goal.at.bounds-list-i c).Start)
 
 pub kind_number-requires : goal.kind_number-requires
-kind_number-requires c = let s = c in
-    let g = (check_good (within_limits s.requires.0.area) s.args.list s.requires.0.good).0 in
-    let n : s.args.list.count ≡ min s.args.list.count 64 = omega (arith, few (goal.at.kind_number-requires c).Start) in
-    let k = element_is s.args.list (full (goal.at.kind_number-requires c).Start) n c.loop-i-test.true in
-    kind_small s.requires.0.area _ (ap (within_limits s.requires.0.area) k.1 ∙ good_at (within_limits s.requires.0.area) (values s.args.list) g c.loop-i.i k.0)
+kind_number-requires c =
+    let g = (check_good (within_limits c.requires.0.area) c.args.list c.requires.0.good).0 in
+    let n : c.args.list.count ≡ min c.args.list.count 64 = omega (arith, few (goal.at.kind_number-requires c).Start) in
+    let k = element_is c.args.list (full (goal.at.kind_number-requires c).Start) n c.loop-i-test.true in
+    kind_small c.requires.0.area _ (ap (within_limits c.requires.0.area) k.1 ∙ good_at (within_limits c.requires.0.area) (values c.args.list) g c.loop-i.i k.0)
 
 pub offset_bounds-kinds-i : goal.offset_bounds-kinds-i
 offset_bounds-kinds-i c = omega (arith, few (goal.at.offset_bounds-kinds-i c).Start)
@@ -54,10 +54,10 @@ pub bounds-details-i : goal.bounds-details-i
 bounds-details-i c = omega (arith, few (goal.at.bounds-details-i c).Start)
 
 pub loop-i-preserved : goal.loop-i-preserved
-loop-i-preserved c = let l = c.loop-i in
-    let s = c in
-    let n : s.args.list.count ≡ min s.args.list.count 64 = omega (arith, few (goal.at.loop-i-preserved c).Start) in
-    let k = element_is s.args.list (full (goal.at.loop-i-preserved c).Start) n c.loop-i-test.true in
+loop-i-preserved c =
+    let l = c.loop-i in
+    let n : c.args.list.count ≡ min c.args.list.count 64 = omega (arith, few (goal.at.loop-i-preserved c).Start) in
+    let k = element_is c.args.list (full (goal.at.loop-i-preserved c).Start) n c.loop-i-test.true in
     let m = from_bits c.amount_of.result c.amount_of.type_inv ∙ c.amount_of.ensures in (
       taken_more l.invariant.0 k.0 (omega (arith, few (goal.at.loop-i-preserved c).Start)) (omega (arith, few (goal.at.loop-i-preserved c).Start)) (omega (arith, few (goal.at.loop-i-preserved c).Start)) k.1 c.kind_number.ensures m c.detail_of.ensures,
       omega arith,
@@ -67,6 +67,6 @@ loop-i-preserved c = let l = c.loop-i in
     )
 
 pub returns : goal.returns
-returns c = let l = c.loop-i in
-    let s = c in
-    taken_all l.invariant.0 s.args.list.count (omega arith) (omega (arith, few (goal.at.returns c).Start, values_length s.args.list (full (goal.at.returns c).Start)))
+returns c =
+    let l = c.loop-i in
+    taken_all l.invariant.0 c.args.list.count (omega arith) (omega (arith, few (goal.at.returns c).Start, values_length c.args.list (full (goal.at.returns c).Start)))

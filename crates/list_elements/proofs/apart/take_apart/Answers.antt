@@ -21,24 +21,21 @@ pub loop-i-init : goal.loop-i-init
 loop-i-init c = (checked_none, taken_none, refl, refl, refl)
 
 pub returns-then-not-within_limits : goal.returns-then-not-within_limits
-returns-then-not-within_limits c = let w = c in
-    let l = w.loop-i in
-    let s = w in
-    let k = element_is s.args.list (full (goal.at.returns-then-not-within_limits c).Start) w.looked_at-n.ensures w.loop-i-test.true in record {
-      checked = check_bad (within_limits s.args.area.now) s.args.list (full (goal.at.returns-then-not-within_limits c).Start) (checked_bad l.invariant.0 k.0 k.1 (sym w.within_limits.ensures ∙ not-true _ c.if-not-within_limits.true-raw));
+returns-then-not-within_limits c =
+    let l = c.loop-i in
+    let k = element_is c.args.list (full (goal.at.returns-then-not-within_limits c).Start) c.looked_at-n.ensures c.loop-i-test.true in record {
+      checked = check_bad (within_limits c.args.area.now) c.args.list (full (goal.at.returns-then-not-within_limits c).Start) (checked_bad l.invariant.0 k.0 k.1 (sym c.within_limits.ensures ∙ c.if-not-within_limits.true));
       apart = bad_not_good;
     }
 
 pub kind_number-requires : goal.kind_number-requires
-kind_number-requires c = let w = c in
-    kind_small w.args.area.now _ (sym w.within_limits.ensures ∙ not-false _ c.if-not-within_limits.false-raw)
+kind_number-requires c = kind_small c.args.area.now _ (sym c.within_limits.ensures ∙ c.if-not-within_limits.false)
 
 pub loop-i-preserved : goal.loop-i-preserved
-loop-i-preserved c = let w = c in
-    let l = w.loop-i in
-    let s = w in
-    let k = element_is s.args.list (full (goal.at.loop-i-preserved c).Start) w.looked_at-n.ensures w.loop-i-test.true in
-    let good = sym w.within_limits.ensures ∙ not-false _ c.if-not-within_limits.false-raw in
+loop-i-preserved c =
+    let l = c.loop-i in
+    let k = element_is c.args.list (full (goal.at.loop-i-preserved c).Start) c.looked_at-n.ensures c.loop-i-test.true in
+    let good = sym c.within_limits.ensures ∙ c.if-not-within_limits.false in
     let m = from_bits c.amount_of.result c.amount_of.type_inv ∙ c.amount_of.ensures in (
       checked_more l.invariant.0 k.0 k.1 good,
       taken_more l.invariant.1 k.0 (omega arith) (omega arith) (omega arith) k.1 c.kind_number.ensures m c.detail_of.ensures,
@@ -48,20 +45,20 @@ loop-i-preserved c = let w = c in
     )
 
 pub returns-then-count-gt-MOST : goal.returns-then-count-gt-MOST
-returns-then-count-gt-MOST c = let l = c.loop-i in
-    let s = c in
-    let h : length (values s.args.list) ≤ l.i = omega (arith, values_length s.args.list (full (goal.at.returns-then-count-gt-MOST c).Start), c.looked_at-n.ensures) in
+returns-then-count-gt-MOST c =
+    let l = c.loop-i in
+    let h : length (values c.args.list) ≤ l.i = omega (arith, values_length c.args.list (full (goal.at.returns-then-count-gt-MOST c).Start), c.looked_at-n.ensures) in
     record {
-      checked = check_many (within_limits s.args.area.now) s.args.list (full (goal.at.returns-then-count-gt-MOST c).Start) (checked_good l.invariant.0 h) c.if-count-gt-MOST.true;
+      checked = check_many (within_limits c.args.area.now) c.args.list (full (goal.at.returns-then-count-gt-MOST c).Start) (checked_good l.invariant.0 h) c.if-count-gt-MOST.true;
       apart = bad_not_good;
     }
 
 pub returns : goal.returns
-returns c = let l = c.loop-i in
-    let s = c in
-    let n : length (values s.args.list) ≡ s.args.list.count = omega (arith, values_length s.args.list (full (goal.at.returns c).Start)) in
-    let h : s.args.list.count ≡ l.i = omega (arith, c.looked_at-n.ensures) in
+returns c =
+    let l = c.loop-i in
+    let n : length (values c.args.list) ≡ c.args.list.count = omega (arith, values_length c.args.list (full (goal.at.returns c).Start)) in
+    let h : c.args.list.count ≡ l.i = omega (arith, c.looked_at-n.ensures) in
     record {
-      checked = check_fine (within_limits s.args.area.now) s.args.list (full (goal.at.returns c).Start) (checked_good l.invariant.0 (omega arith)) c.if-count-gt-MOST.false;
-      apart = λ e. taken_all l.invariant.1 s.args.list.count h (omega arith);
+      checked = check_fine (within_limits c.args.area.now) c.args.list (full (goal.at.returns c).Start) (checked_good l.invariant.0 (omega arith)) c.if-count-gt-MOST.false;
+      apart = λ e. taken_all l.invariant.1 c.args.list.count h (omega arith);
     }

@@ -1,3 +1,4 @@
+-- The first i elements are within their limits and taken apart.
 use mathlib.Core.Path.{◌≡◌}
 use Prim.Native.Nat.{◌-◌}
 use lib.ListN.{length}

@@ -12,7 +12,7 @@ told : (c : After-within_largest) → c.within_largest.result ≡ leb (nat_abs c
 told c = simp (from_bits c.args.d.units c.struct_told-1.given.0.1) at c.within_largest.ensures
 
 pub returns-then-not-within_largest : goal.returns-then-not-within_largest
-returns-then-not-within_largest c = rw (sym (told (goal.at.returns-then-not-within_largest c).After-within_largest) ∙ not-true _ c.if-not-within_largest.true-raw)
+returns-then-not-within_largest c = rw (sym (told (goal.at.returns-then-not-within_largest c).After-within_largest) ∙ c.if-not-within_largest.true)
 
 pub returns : goal.returns
-returns c = rw (sym (told (goal.at.returns c).After-within_largest) ∙ not-false _ c.if-not-within_largest.false-raw)
+returns c = rw (sym (told (goal.at.returns c).After-within_largest) ∙ c.if-not-within_largest.false)

@@ -20,44 +20,41 @@ pub loop-i-init : goal.loop-i-init
 loop-i-init c = (checked_none, filled_none, refl)
 
 pub returns-then-not-may_be_wanted : goal.returns-then-not-may_be_wanted
-returns-then-not-may_be_wanted c = let w = c in
-    let l = w.loop-i in
-    let s = w in
-    let k = element_is s.args.list (full (goal.at.returns-then-not-may_be_wanted c).Start) w.looked_at-n.ensures w.loop-i-test.true in
+returns-then-not-may_be_wanted c =
+    let l = c.loop-i in
+    let k = element_is c.args.list (full (goal.at.returns-then-not-may_be_wanted c).Start) c.looked_at-n.ensures c.loop-i-test.true in
     record {
-      checked = check_bad may_be_wanted s.args.list (full (goal.at.returns-then-not-may_be_wanted c).Start) (checked_bad l.invariant.0 k.0 k.1 (sym w.may_be_wanted.ensures ∙ not-true _ c.if-not-may_be_wanted.true-raw));
+      checked = check_bad may_be_wanted c.args.list (full (goal.at.returns-then-not-may_be_wanted c).Start) (checked_bad l.invariant.0 k.0 k.1 (sym c.may_be_wanted.ensures ∙ c.if-not-may_be_wanted.true));
       kinds = bad_not_good;
     }
 
 pub kind_number-requires : goal.kind_number-requires
-kind_number-requires c = let l = c in
-    wanted_small (value_of (get_or l.args.list.elements l.loop-i.i (record { value = zero_value }))) (sym c.may_be_wanted.ensures ∙ not-false _ c.if-not-may_be_wanted.false-raw)
+kind_number-requires c = wanted_small (value_of (get_or c.args.list.elements c.loop-i.i (record { value = zero_value }))) (sym c.may_be_wanted.ensures ∙ c.if-not-may_be_wanted.false)
 
 pub loop-i-preserved : goal.loop-i-preserved
-loop-i-preserved c = let w = c in
-    let l = w.loop-i in
-    let s = w in
-    let k = element_is s.args.list (full (goal.at.loop-i-preserved c).Start) w.looked_at-n.ensures w.loop-i-test.true in (
-      checked_more l.invariant.0 k.0 k.1 (sym w.may_be_wanted.ensures ∙ not-false _ c.if-not-may_be_wanted.false-raw),
+loop-i-preserved c =
+    let l = c.loop-i in
+    let k = element_is c.args.list (full (goal.at.loop-i-preserved c).Start) c.looked_at-n.ensures c.loop-i-test.true in (
+      checked_more l.invariant.0 k.0 k.1 (sym c.may_be_wanted.ensures ∙ c.if-not-may_be_wanted.false),
       filled_more l.invariant.1 (omega arith) k.0 k.1 c.kind_number.ensures,
       simp length-set l.invariant.2,
     )
 
 pub returns-then-count-gt-MOST : goal.returns-then-count-gt-MOST
-returns-then-count-gt-MOST c = let l = c.loop-i in
-    let s = c in
-    let h : length (values s.args.list) ≤ l.i = omega (arith, values_length s.args.list (full (goal.at.returns-then-count-gt-MOST c).Start), c.looked_at-n.ensures) in
+returns-then-count-gt-MOST c =
+    let l = c.loop-i in
+    let h : length (values c.args.list) ≤ l.i = omega (arith, values_length c.args.list (full (goal.at.returns-then-count-gt-MOST c).Start), c.looked_at-n.ensures) in
     record {
-      checked = check_many may_be_wanted s.args.list (full (goal.at.returns-then-count-gt-MOST c).Start) (checked_good l.invariant.0 h) c.if-count-gt-MOST.true;
+      checked = check_many may_be_wanted c.args.list (full (goal.at.returns-then-count-gt-MOST c).Start) (checked_good l.invariant.0 h) c.if-count-gt-MOST.true;
       kinds = bad_not_good;
     }
 
 pub returns : goal.returns
-returns c = let l = c.loop-i in
-    let s = c in
-    let n : length (values s.args.list) ≡ s.args.list.count = omega (arith, values_length s.args.list (full (goal.at.returns c).Start)) in
-    let h : s.args.list.count ≡ l.i = omega (arith, c.looked_at-n.ensures) in
+returns c =
+    let l = c.loop-i in
+    let n : length (values c.args.list) ≡ c.args.list.count = omega (arith, values_length c.args.list (full (goal.at.returns c).Start)) in
+    let h : c.args.list.count ≡ l.i = omega (arith, c.looked_at-n.ensures) in
     record {
-      checked = check_fine may_be_wanted s.args.list (full (goal.at.returns c).Start) (checked_good l.invariant.0 (omega arith)) c.if-count-gt-MOST.false;
-      kinds = λ e. filled_all l.invariant.1 s.args.list.count h (omega arith);
+      checked = check_fine may_be_wanted c.args.list (full (goal.at.returns c).Start) (checked_good l.invariant.0 (omega arith)) c.if-count-gt-MOST.false;
+      kinds = λ e. filled_all l.invariant.1 c.args.list.count h (omega arith);
     }

@@ -1,3 +1,4 @@
+-- The first i elements may be wanted, and their kinds are taken.
 use mathlib.Core.Path.{◌≡◌}
 use Prim.Native.Nat.{◌-◌}
 use lib.ListN.{length}

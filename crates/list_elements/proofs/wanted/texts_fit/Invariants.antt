@@ -1,3 +1,4 @@
+-- So much of the room is left after the texts of the first i kinds.
 use Prim.Native.Nat.{◌-◌}
 use lib.ListN.{length}
 use Rattle.list_elements.proofs.Fitting.{Fitting}

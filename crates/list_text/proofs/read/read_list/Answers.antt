@@ -21,7 +21,7 @@ returns-then-not-within_limits c = let clauses = let s = c.args.text.now in
     answered_bad _ c.refused-then-not-within_limits.ensures
     (reading_bad l.invariant.0 c.loop-at-test.true refl c.if-n-eq-MOST.false
     (cut_bad s l.at c.line_end_within-end.ensures.0 c.element_on-value.ensures
-    (sym c.within_limits.ensures ∙ not-true _ c.if-not-within_limits.true-raw))) in
+    (sym c.within_limits.ensures ∙ c.if-not-within_limits.true))) in
     record { checked = clauses.0; list = clauses.1.0; number = clauses.1.1.0; place = clauses.1.1.1 }
 
 pub loop-at-smaller : goal.loop-at-smaller
@@ -30,7 +30,7 @@ loop-at-smaller c = omega (arith, c.line_end_within-end.ensures.0, c.loop-at-tes
 pub loop-at-preserved : goal.loop-at-preserved
 loop-at-preserved c = let s = c.args.text.now in
     let l = c.loop-at in
-    let good = sym c.within_limits.ensures ∙ not-false _ c.if-not-within_limits.false-raw in
+    let good = sym c.within_limits.ensures ∙ c.if-not-within_limits.false in
     let e = c.line_end_within-end in
     let w = cut_good s l.at e.ensures.0 c.element_on-value.ensures good in
     (reading_more l.invariant.0 c.loop-at-test.true w.0 w.1 c.if-n-eq-MOST.false good, omega (arith, e.ensures.1))

@@ -15,12 +15,11 @@ pub table-powers-requires : goal.table-powers-requires
 table-powers-requires c = tt
 
 pub returns-then-m-powers : goal.returns-then-m-powers
-returns-then-m-powers c = let l = c in
-    count_found l.args.m l.loop-n.n l.loop-n.invariant.0 l.loop-n.invariant.2 (rw (power (goal.at.returns-then-m-powers c).In-loop-n) at c.if-m-powers.true)
+returns-then-m-powers c = count_found c.args.m c.loop-n.n c.loop-n.invariant.0 c.loop-n.invariant.2 (rw (power (goal.at.returns-then-m-powers c).In-loop-n) at c.if-m-powers.true)
 
 pub loop-n-preserved : goal.loop-n-preserved
-loop-n-preserved c = let l = c in (
+loop-n-preserved c = (
   omega arith,
   omega arith,
-  count_more l.args.m l.loop-n.n (rw (power (goal.at.loop-n-preserved c).In-loop-n) at c.if-m-powers.false),
+  count_more c.args.m c.loop-n.n (rw (power (goal.at.loop-n-preserved c).In-loop-n) at c.if-m-powers.false),
 )

@@ -17,36 +17,31 @@ counted : (m r k : ℕ) → r ≡ digit_count m → digit_count m ≤ k → k < 
 counted m r k e f l = (e, omega (arith, digit_count_pos m), omega arith)
 
 pub count_within-requires : goal.count_within-requires
-count_within-requires c = let p = c in
-    let m = p.args.m in
-    (omega arith, digit_count_pos m, few m _ 6 p.power_of_ten.ensures.0 (omega arith) c.if-m-power_of_ten.true, omega arith)
+count_within-requires c =
+    let m = c.args.m in
+    (omega arith, digit_count_pos m, few m _ 6 c.power_of_ten.ensures.0 (omega arith) c.if-m-power_of_ten.true, omega arith)
 
 pub returns-then-m-power_of_ten : goal.returns-then-m-power_of_ten
-returns-then-m-power_of_ten c = let p = c in
-    let m = p.args.m in
-    counted m _ 6 c.count_within.ensures (few m _ 6 p.power_of_ten.ensures.0 (omega arith) c.if-m-power_of_ten.true) (omega arith)
+returns-then-m-power_of_ten c =
+    let m = c.args.m in
+    counted m _ 6 c.count_within.ensures (few m _ 6 c.power_of_ten.ensures.0 (omega arith) c.if-m-power_of_ten.true) (omega arith)
 
 pub count_within-requires-then-m-power_of_ten-2 : goal.count_within-requires-then-m-power_of_ten-2
-count_within-requires-then-m-power_of_ten-2 c = let q = c in
-    let p = q in
-    let m = p.args.m in (
-      omega arith,
-      many m _ 6 p.power_of_ten.ensures.0 q.if-m-power_of_ten.false,
-      few m _ 12 q.power_of_ten-2.ensures.0 (omega arith) c.if-m-power_of_ten-2.true,
-      omega arith,
-    )
+count_within-requires-then-m-power_of_ten-2 c = let m = c.args.m in (
+  omega arith,
+  many m _ 6 c.power_of_ten.ensures.0 c.if-m-power_of_ten.false,
+  few m _ 12 c.power_of_ten-2.ensures.0 (omega arith) c.if-m-power_of_ten-2.true,
+  omega arith,
+)
 
 pub returns-then-m-power_of_ten-2 : goal.returns-then-m-power_of_ten-2
-returns-then-m-power_of_ten-2 c = let q = c in
-    let m = q.args.m in
-    counted m _ 12 c.count_within-then-m-power_of_ten-2.ensures (few m _ 12 q.power_of_ten-2.ensures.0 (omega arith) c.if-m-power_of_ten-2.true) (omega arith)
+returns-then-m-power_of_ten-2 c =
+    let m = c.args.m in
+    counted m _ 12 c.count_within-then-m-power_of_ten-2.ensures (few m _ 12 c.power_of_ten-2.ensures.0 (omega arith) c.if-m-power_of_ten-2.true) (omega arith)
 
 -- the largest magnitude has 18 digits
 pub count_within-requires-2 : goal.count_within-requires-2
-count_within-requires-2 c = let q = c in
-    let a = q in
-    (omega arith, many a.args.m _ 12 q.power_of_ten-2.ensures.0 c.if-m-power_of_ten-2.false, digit_count_least a.args.m 18 (omega arith) (omega (arith, a.requires)), omega arith)
+count_within-requires-2 c = (omega arith, many c.args.m _ 12 c.power_of_ten-2.ensures.0 c.if-m-power_of_ten-2.false, digit_count_least c.args.m 18 (omega arith) (omega (arith, c.requires)), omega arith)
 
 pub returns : goal.returns
-returns c = let a = c in
-    counted a.args.m _ 18 c.count_within-2.ensures (digit_count_least a.args.m 18 (omega arith) (omega (arith, a.requires))) (omega arith)
+returns c = counted c.args.m _ 18 c.count_within-2.ensures (digit_count_least c.args.m 18 (omega arith) (omega (arith, c.requires))) (omega arith)

@@ -1,3 +1,4 @@
+-- The code's table is compared with `tens 0 19`, whose rule is a law.
 use mathlib.Core.Path.{◌≡◌, refl}
 use Prim.Native.Nat.{◌^◌}
 use lib.ListN.{get_or}

@@ -35,7 +35,7 @@ pub returns-then-places-wanted-2 : goal.returns-then-places-wanted-2
 returns-then-places-wanted-2 c = answer_large _ _ _ (nearest_up _ _ _ (omega (arith, c.if-places-wanted-2.true)) (factor (goal.at.returns-then-places-wanted-2 c).After-table-powers)) (times_large _ (few (goal.at.returns-then-places-wanted-2 c).After-table-powers) (factor (goal.at.returns-then-places-wanted-2 c).After-table-powers) (limit (goal.at.returns-then-places-wanted-2 c).After-table-powers) c.if-units-powers.false)
 
 pub returns : goal.returns
-returns c = let a = c in
-    let k = a.args.places - a.args.wanted in
+returns c =
+    let k = c.args.places - c.args.wanted in
     rw c.fewer_places.ensures
-    (answer_units _ _ _ (nearest_down _ _ _ {p = 10 ^ k} (omega arith) refl) (down_small (ten_pos k) a.requires.0))
+    (answer_units _ _ _ (nearest_down _ _ _ {p = 10 ^ k} (omega arith) refl) (down_small (ten_pos k) c.requires.0))

@@ -11,13 +11,13 @@ pub slice_bounds-read_loaded-end : goal.slice_bounds-read_loaded-end
 slice_bounds-read_loaded-end c = sym (length-take-le _ _ (rw c.in-Run.is at c.load.ensures).0)
 
 pub read_loaded-requires : goal.read_loaded-requires
-read_loaded-requires c = let a = c in (a.requires.0, record { format = a.args.format.now; held = (rw c.in-Run.is at c.load.ensures).1 }, a.requires.1, a.requires.2, a.requires.3)
+read_loaded-requires c = (c.requires.0, record { format = c.args.format.now; held = (rw c.in-Run.is at c.load.ensures).1 }, c.requires.1, c.requires.2, c.requires.3)
 
 pub returns-in-Refused : goal.returns-in-Refused
-returns-in-Refused c = let a = c in record { read = format_refuses a.args.width a.args.format.now a.args.check a.args.kinds.now a.args.room a.args.records.now a.requires.0 (rw c.in-Refused.is at c.load.ensures) }
+returns-in-Refused c = record { read = format_refuses c.args.width c.args.format.now c.args.check c.args.kinds.now c.args.room c.args.records.now c.requires.0 (rw c.in-Refused.is at c.load.ensures) }
 
 pub returns-in-Larger : goal.returns-in-Larger
 returns-in-Larger c = absurd ((rw c.in-Larger.is at c.load.ensures) (search rules) (search rules) (search rules))
 
 pub returns-in-Run : goal.returns-in-Run
-returns-in-Run c = let a = c in record { read = c.read_loaded.ensures.read a.args.format.now (rw c.in-Run.is at c.load.ensures).1 }
+returns-in-Run c = record { read = c.read_loaded.ensures.read c.args.format.now (rw c.in-Run.is at c.load.ensures).1 }

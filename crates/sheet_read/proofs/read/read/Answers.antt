@@ -42,7 +42,7 @@ pub slice_bounds-read_numbers-end : goal.slice_bounds-read_numbers-end
 slice_bounds-read_numbers-end c = sym (long (goal.at.slice_bounds-read_numbers-end c).After-usable-n)
 
 pub read_numbers-ending-requires : goal.read_numbers-ending-requires
-read_numbers-ending-requires c = let u = c in (omega (arith, long (goal.at.read_numbers-ending-requires c).After-usable-n, few (goal.at.read_numbers-ending-requires c).After-usable-n), omega (arith, long (goal.at.read_numbers-ending-requires c).After-usable-n, few (goal.at.read_numbers-ending-requires c).After-usable-n), omega (arith, long (goal.at.read_numbers-ending-requires c).After-usable-n, few (goal.at.read_numbers-ending-requires c).After-usable-n))
+read_numbers-ending-requires c = (omega (arith, long (goal.at.read_numbers-ending-requires c).After-usable-n, few (goal.at.read_numbers-ending-requires c).After-usable-n), omega (arith, long (goal.at.read_numbers-ending-requires c).After-usable-n, few (goal.at.read_numbers-ending-requires c).After-usable-n), omega (arith, long (goal.at.read_numbers-ending-requires c).After-usable-n, few (goal.at.read_numbers-ending-requires c).After-usable-n))
 
 pub slice_bounds-kinds-end-2 : goal.slice_bounds-kinds-end-2
 slice_bounds-kinds-end-2 c = fewer (goal.at.slice_bounds-kinds-end-2 c).After-given_count-m
@@ -54,5 +54,6 @@ pub give-list-requires : goal.give-list-requires
 give-list-requires c = let q = given_so (goal.at.give-list-requires c).After-read_numbers-ending in rw c.given_count-m.ensures (record { cs = q.cs; held = q.held })
 
 pub returns : goal.returns
-returns c = let clauses = let a = c in let q = given_so (goal.at.returns c).After-read_numbers-ending in finished a.args.width a.args.format.now a.args.wanted a.args.area.now a.args.records.now (rw c.answer_of-answer.ensures (q.answered (c.give-list.ensures.list q.cs (rw c.given_count-m.ensures q.held)) (c.give-list.ensures.texts q.cs (rw c.given_count-m.ensures q.held)))) in
+returns c =
+    let clauses = let q = given_so (goal.at.returns c).After-read_numbers-ending in finished c.args.width c.args.format.now c.args.wanted c.args.area.now c.args.records.now (rw c.answer_of-answer.ensures (q.answered (c.give-list.ensures.list q.cs (rw c.given_count-m.ensures q.held)) (c.give-list.ensures.texts q.cs (rw c.given_count-m.ensures q.held)))) in
     record { answers = clauses.0; values = clauses.1.0; texts = clauses.1.1.0; number = clauses.1.1.1.0; place = clauses.1.1.1.1.0; records = clauses.1.1.1.1.1.0; starred = clauses.1.1.1.1.1.1 }

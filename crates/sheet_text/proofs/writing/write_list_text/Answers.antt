@@ -27,8 +27,8 @@ listed c long =
     text_listed c.args.text.now r.ensures.checked r.ensures.list c.set_apart.new.kinds c.set_apart.new.amounts c.set_apart.new.details long c.set_apart.ensures
 
 pub returns-then-not-width_right : goal.returns-then-not-width_right
-returns-then-not-width_right c = let clauses = let a = c in
-    promised (width_refuses a.args.width a.args.format.now (line_check a.args.text.now) {vs = line_values a.args.text.now} (sym c.width_right.ensures ∙ not-true _ c.if-not-width_right.true-raw)) in
+returns-then-not-width_right c =
+    let clauses = promised (width_refuses c.args.width c.args.format.now (line_check c.args.text.now) {vs = line_values c.args.text.now} (sym c.width_right.ensures ∙ c.if-not-width_right.true)) in
     record { answers = clauses.0; bytes = clauses.1.0; number = clauses.1.1.0; place = clauses.1.1.1.0; records = clauses.1.1.1.1.0; starred = clauses.1.1.1.1.1 }
 
 pub set_apart-requires : goal.set_apart-requires
@@ -55,7 +55,7 @@ slice_bounds-write_apart-end-3 c = let g : length c.set_apart.new.details ≡ 64
 
 pub write_apart-requires : goal.write_apart-requires
 write_apart-requires c = let g : length c.set_apart.new.kinds ≡ 64 = search rules in (
-  width_passed _ (sym c.width_right.ensures ∙ not-false _ c.if-not-width_right.false-raw),
+  width_passed _ (sym c.width_right.ensures ∙ c.if-not-width_right.false),
   record { vs = line_values c.args.text.now; listed_if = listed (goal.at.write_apart-requires c).After-set_apart g },
 )
 

@@ -9,7 +9,7 @@ pub overflow_add-result : goal.overflow_add-result
 overflow_add-result c = omega (arith, offset_fits c.requires)
 
 pub returns-then-width-rs : goal.returns-then-width-rs
-returns-then-width-rs c = let a = c in cover_fits a.args.rs a.args.s a.args.width a.args.taken a.requires.to c.if-width-rs.true
+returns-then-width-rs c = cover_fits c.args.rs c.args.s c.args.width c.args.taken c.requires.to c.if-width-rs.true
 
 pub returns : goal.returns
-returns c = let a = c in cover_refused a.args.rs a.args.s a.args.width a.args.taken a.requires.to c.if-width-rs.false
+returns c = cover_refused c.args.rs c.args.s c.args.width c.args.taken c.requires.to c.if-width-rs.false

@@ -8,7 +8,7 @@ use Rattle.sheet_walk.proofs.TurnLaws.{turn_item, turn_end}
 use Rattle.sheet_walk.proofs.turns.advance.Goals as goal
 
 pub returns-then-i-words : goal.returns-then-i-words
-returns-then-i-words c = λ t h e. let a = c in turn_item t a.args.words.now a.args.back a.args.kinds.now a.args.rs a.args.c c.if-i-words.true (c.meet.ensures t (word_at (length t) a.args.words.now a.args.c.index h c.if-i-words.true)) c.onward.ensures
+returns-then-i-words c = λ t h e. turn_item t c.args.words.now c.args.back c.args.kinds.now c.args.rs c.args.c c.if-i-words.true (c.meet.ensures t (word_at (length t) c.args.words.now c.args.c.index h c.if-i-words.true)) c.onward.ensures
 
 pub returns : goal.returns
-returns c = λ t h e. let a = c in turn_end t a.args.words.now a.args.back a.args.kinds.now a.args.rs a.args.c c.if-i-words.false (c.end.ensures (map kind_from a.args.kinds.now) (drop a.args.back (map (met_of t) a.args.words.now)) (sym (length-map a.args.kinds.now kind_from)) e) c.onward-2.ensures
+returns c = λ t h e. turn_end t c.args.words.now c.args.back c.args.kinds.now c.args.rs c.args.c c.if-i-words.false (c.end.ensures (map kind_from c.args.kinds.now) (drop c.args.back (map (met_of t) c.args.words.now)) (sym (length-map c.args.kinds.now kind_from)) e) c.onward-2.ensures

@@ -11,7 +11,7 @@ pub overflow_add-result : goal.overflow_add-result
 overflow_add-result c = omega (arith, offset_fits c.requires)
 
 pub returns-then-width-rs : goal.returns-then-width-rs
-returns-then-width-rs c = λ what. let a = c in ap (cover_in a.args.index) (cover_fits a.args.rs a.args.s a.args.width a.args.taken a.requires.to c.if-width-rs.true what)
+returns-then-width-rs c = λ what. ap (cover_in c.args.index) (cover_fits c.args.rs c.args.s c.args.width c.args.taken c.requires.to c.if-width-rs.true what)
 
 pub returns : goal.returns
-returns c = λ what. let a = c in ap (cover_in a.args.index) (cover_refused a.args.rs a.args.s a.args.width a.args.taken a.requires.to c.if-width-rs.false what)
+returns c = λ what. ap (cover_in c.args.index) (cover_refused c.args.rs c.args.s c.args.width c.args.taken c.requires.to c.if-width-rs.false what)

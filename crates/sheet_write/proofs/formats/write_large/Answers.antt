@@ -11,13 +11,13 @@ pub slice_bounds-write_loaded-end : goal.slice_bounds-write_loaded-end
 slice_bounds-write_loaded-end c = sym (length-take-le _ _ (rw c.in-Run.is at c.load.ensures).0)
 
 pub write_loaded-requires : goal.write_loaded-requires
-write_loaded-requires c = let a = c in (a.requires.0, record { format = a.args.format.now; held = (rw c.in-Run.is at c.load.ensures).1 }, a.requires.1)
+write_loaded-requires c = (c.requires.0, record { format = c.args.format.now; held = (rw c.in-Run.is at c.load.ensures).1 }, c.requires.1)
 
 pub returns-in-Refused : goal.returns-in-Refused
-returns-in-Refused c = let a = c in record { wrote = λ vs l. format_refuses a.args.width a.args.format.now a.args.check a.requires.0 (rw c.in-Refused.is at c.load.ensures) }
+returns-in-Refused c = record { wrote = λ vs l. format_refuses c.args.width c.args.format.now c.args.check c.requires.0 (rw c.in-Refused.is at c.load.ensures) }
 
 pub returns-in-Larger : goal.returns-in-Larger
 returns-in-Larger c = absurd ((rw c.in-Larger.is at c.load.ensures) (search rules) (search rules) (search rules))
 
 pub returns-in-Run : goal.returns-in-Run
-returns-in-Run c = let a = c in record { wrote = λ vs l. c.write_loaded.ensures.wrote vs a.args.format.now (rw c.in-Run.is at c.load.ensures).1 l }
+returns-in-Run c = record { wrote = λ vs l. c.write_loaded.ensures.wrote vs c.args.format.now (rw c.in-Run.is at c.load.ensures).1 l }

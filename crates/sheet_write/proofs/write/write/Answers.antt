@@ -17,19 +17,20 @@ use Rattle.sheet_write.proofs.write.write.Goals.{After-usable-n, Else-width-gt-W
 -- the elements used are at most 64
 few : (c : After-usable-n) → c.usable-n.result ≤ 64
 few c =
-    let a = c in
-    rw c.usable-n.ensures (usable_few (within_limits a.args.area.now) a.args.list c.take_apart-check.result c.take_apart-check.ensures.checked)
+    rw c.usable-n.ensures (usable_few (within_limits c.args.area.now) c.args.list c.take_apart-check.result c.take_apart-check.ensures.checked)
 
 -- row 1 is passed
 right : (c : Else-width-gt-WIDEST_RECORD) → WidthRight c.args.width
 right c = record { from = omega arith; to = omega arith }
 
 pub returns-then-width-lt1 : goal.returns-then-width-lt1
-returns-then-width-lt1 c = let clauses = let a = c in promised (width_refuses a.args.width a.args.format.now (list_check a.args.area.now a.args.list) (width_none a.args.width (omega arith))) in
+returns-then-width-lt1 c =
+    let clauses = promised (width_refuses c.args.width c.args.format.now (list_check c.args.area.now c.args.list) (width_none c.args.width (omega arith))) in
     record { answers = clauses.0; bytes = clauses.1.0; number = clauses.1.1.0; place = clauses.1.1.1.0; records = clauses.1.1.1.1.0; starred = clauses.1.1.1.1.1 }
 
 pub returns-then-width-gt-WIDEST_RECORD : goal.returns-then-width-gt-WIDEST_RECORD
-returns-then-width-gt-WIDEST_RECORD c = let clauses = let a = c in promised (width_refuses a.args.width a.args.format.now (list_check a.args.area.now a.args.list) (width_over a.args.width (omega arith) (omega arith))) in
+returns-then-width-gt-WIDEST_RECORD c =
+    let clauses = promised (width_refuses c.args.width c.args.format.now (list_check c.args.area.now c.args.list) (width_over c.args.width (omega arith) (omega arith))) in
     record { answers = clauses.0; bytes = clauses.1.0; number = clauses.1.1.0; place = clauses.1.1.1.0; records = clauses.1.1.1.1.0; starred = clauses.1.1.1.1.1 }
 
 pub slice_bounds-kinds-end : goal.slice_bounds-kinds-end
@@ -51,8 +52,9 @@ pub slice_bounds-write_apart-end-3 : goal.slice_bounds-write_apart-end-3
 slice_bounds-write_apart-end-3 c = let g : length c.take_apart-check.new.details ≡ 64 = search rules in sym (length-take-le _ _ (omega (arith, few (goal.at.slice_bounds-write_apart-end-3 c).After-usable-n)))
 
 pub write_apart-requires : goal.write_apart-requires
-write_apart-requires c = let a = c in let t = c.take_apart-check in let g : length t.new.kinds ≡ 64 = search rules in (right (goal.at.write_apart-requires c).Else-width-gt-WIDEST_RECORD, record { vs = values a.args.list; listed_if = listed_if a.args.area.now a.args.list t.result t.ensures.checked t.new.kinds t.new.amounts t.new.details g t.ensures.apart c.usable-n.ensures })
+write_apart-requires c = let t = c.take_apart-check in let g : length t.new.kinds ≡ 64 = search rules in (right (goal.at.write_apart-requires c).Else-width-gt-WIDEST_RECORD, record { vs = values c.args.list; listed_if = listed_if c.args.area.now c.args.list t.result t.ensures.checked t.new.kinds t.new.amounts t.new.details g t.ensures.apart c.usable-n.ensures })
 
 pub returns : goal.returns
-returns c = let clauses = let a = c in let t = c.take_apart-check in let g : length t.new.kinds ≡ 64 = search rules in promised (checked_so a.args.format.now t.ensures.checked (c.write_apart.ensures.wrote (values a.args.list) (listed_if a.args.area.now a.args.list t.result t.ensures.checked t.new.kinds t.new.amounts t.new.details g t.ensures.apart c.usable-n.ensures))) in
+returns c =
+    let clauses = let t = c.take_apart-check in let g : length t.new.kinds ≡ 64 = search rules in promised (checked_so c.args.format.now t.ensures.checked (c.write_apart.ensures.wrote (values c.args.list) (listed_if c.args.area.now c.args.list t.result t.ensures.checked t.new.kinds t.new.amounts t.new.details g t.ensures.apart c.usable-n.ensures))) in
     record { answers = clauses.0; bytes = clauses.1.0; number = clauses.1.1.0; place = clauses.1.1.1.0; records = clauses.1.1.1.1.0; starred = clauses.1.1.1.1.1 }

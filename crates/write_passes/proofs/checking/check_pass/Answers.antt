@@ -1,4 +1,3 @@
--- the values are ready, for some characters and area
 use mathlib.Core.Path.{◌≡◌, refl, sym, ap, ◌∙◌}
 use mathlib.Core.List.{List}
 use Prim.Native.Nat.{ℕ, ◌<◌}
@@ -36,65 +35,61 @@ moved c {n} e t area vs r =
 known : (c : After-advance-turn) (u : Turn) → c.advance-turn.result ≡ u → (t area : List ℕ) (vs : List Value) (r : Ready t area vs c.args.words.now c.args.kinds.now c.args.amounts.now c.args.details.now c.args.rs)
     → Passed t c.args.words.now c.args.back c.args.kinds.now c.args.rs r.loaded c.loop-next.c u
 known c u e t area vs r =
-    let a = c in
-    let l = c in
-    passed t a.args.words.now a.args.back a.args.kinds.now a.args.rs r.loaded l.loop-next.c (l.loop-next.invariant t area vs r).stands c.advance-turn.result u
-    (c.advance-turn.ensures t r.loaded.sound (l.has_field-part.ensures t)) e
+    passed t c.args.words.now c.args.back c.args.kinds.now c.args.rs r.loaded c.loop-next.c (c.loop-next.invariant t area vs r).stands c.advance-turn.result u
+    (c.advance-turn.ensures t r.loaded.sound (c.has_field-part.ensures t)) e
 
 -- where nothing is covered, `advance` covers nothing
 uncovered : (c : After-advance-turn) {at w : ℕ} {n : Cursor} → c.advance-turn.result ≡ turn.Covers at w n → (t area : List ℕ) (vs : List Value) → Ready t area vs c.args.words.now c.args.kinds.now c.args.amounts.now c.args.details.now c.args.rs → ⊥
 uncovered c e t area vs r =
-    let a = c in
-    let l = c in
-    covers_not (c.cover_at-cover.ensures t r.loaded.sound (l.has_field-part.ensures t)) c.in-Nothing.is
-    (sym (c.advance-turn.ensures t r.loaded.sound (l.has_field-part.ensures t)) ∙ e)
+    covers_not (c.cover_at-cover.ensures t r.loaded.sound (c.has_field-part.ensures t)) c.in-Nothing.is
+    (sym (c.advance-turn.ensures t r.loaded.sound (c.has_field-part.ensures t)) ∙ e)
 
 pub loop-next-init : goal.loop-next-init
-loop-next-init c = rw c.first_cursor-c.ensures (λ t area vs r. let a = c in record { stands = first_stands t a.args.words.now a.args.back a.args.kinds.now a.args.rs r.loaded; left = ap (judged vs) (first_walk t a.args.words.now a.args.back a.args.kinds.now a.args.rs r.loaded) })
+loop-next-init c = rw c.first_cursor-c.ensures (λ t area vs r. record { stands = first_stands t c.args.words.now c.args.back c.args.kinds.now c.args.rs r.loaded; left = ap (judged vs) (first_walk t c.args.words.now c.args.back c.args.kinds.now c.args.rs r.loaded) })
 
 pub cover_at-cover-requires : goal.cover_at-cover-requires
-cover_at-cover-requires c = let a = c in let q = a.requires in standing q.t a.args.words.now a.args.back a.args.kinds.now a.args.rs q.ready.loaded c.loop-next.c.state (c.loop-next.invariant q.t q.area q.vs q.ready).stands
+cover_at-cover-requires c = let q = c.requires in standing q.t c.args.words.now c.args.back c.args.kinds.now c.args.rs q.ready.loaded c.loop-next.c.state (c.loop-next.invariant q.t q.area q.vs q.ready).stands
 
 pub offset_bounds-words-index : goal.offset_bounds-words-index
-offset_bounds-words-index c = let k = c in let a = k in let q = a.requires in let n = covered (goal.at.offset_bounds-words-index c).After-cover_at-cover c.in-Columns.is q.t q.area q.vs q.ready in let h : k.loop-next.c.index < length a.args.words.now = in_words a.args.back q.ready k.loop-next.c n.0 _ n.4 n.5 in search rules
+offset_bounds-words-index c = let q = c.requires in let n = covered (goal.at.offset_bounds-words-index c).After-cover_at-cover c.in-Columns.is q.t q.area q.vs q.ready in let h : c.loop-next.c.index < length c.args.words.now = in_words c.args.back q.ready c.loop-next.c n.0 _ n.4 n.5 in search rules
 
 pub bounds-words-index : goal.bounds-words-index
-bounds-words-index c = let k = c in let a = k in let q = a.requires in let n = covered (goal.at.bounds-words-index c).After-cover_at-cover c.in-Columns.is q.t q.area q.vs q.ready in in_words a.args.back q.ready k.loop-next.c n.0 _ n.4 n.5
+bounds-words-index c = let q = c.requires in let n = covered (goal.at.bounds-words-index c).After-cover_at-cover c.in-Columns.is q.t q.area q.vs q.ready in in_words c.args.back q.ready c.loop-next.c n.0 _ n.4 n.5
 
 pub too_large-requires : goal.too_large-requires
-too_large-requires c = let k = c in let a = k in let q = a.requires in let n = covered (goal.at.too_large-requires c).After-cover_at-cover c.in-Columns.is q.t q.area q.vs q.ready in record { t = q.t; area = q.area; vs = q.vs; kinds = a.args.kinds.now; w = n.0.width; placeable = placeable a.args.back q.ready k.loop-next.c n.0 _ n.4 n.5 }
+too_large-requires c = let q = c.requires in let n = covered (goal.at.too_large-requires c).After-cover_at-cover c.in-Columns.is q.t q.area q.vs q.ready in record { t = q.t; area = q.area; vs = q.vs; kinds = c.args.kinds.now; w = n.0.width; placeable = placeable c.args.back q.ready c.loop-next.c n.0 _ n.4 n.5 }
 
 pub returns-then-too_large : goal.returns-then-too_large
-returns-then-too_large c = λ t area vs r. let k = c in let a = k in let u = k.loop-next.c in let n = covered (goal.at.returns-then-too_large c).After-cover_at-cover c.in-Columns.is t area vs r in let e = put_large vs n.0 _ (met_of t (get_or a.args.words.now u.index 0)) u.state.taken (what_is a.args.back r u n.0 _ n.4 n.5) (sym (c.too_large.ensures t area vs a.args.kinds.now n.0.width (placeable a.args.back r u n.0 _ n.4 n.5)) ∙ c.if-too_large.true) in ap ending_of (sym e ∙ sym (ap (judged vs) n.1) ∙ (k.loop-next.invariant t area vs r).left)
+returns-then-too_large c = λ t area vs r. let u = c.loop-next.c in let n = covered (goal.at.returns-then-too_large c).After-cover_at-cover c.in-Columns.is t area vs r in let e = put_large vs n.0 _ (met_of t (get_or c.args.words.now u.index 0)) u.state.taken (what_is c.args.back r u n.0 _ n.4 n.5) (sym (c.too_large.ensures t area vs c.args.kinds.now n.0.width (placeable c.args.back r u n.0 _ n.4 n.5)) ∙ c.if-too_large.true) in ap ending_of (sym e ∙ sym (ap (judged vs) n.1) ∙ (c.loop-next.invariant t area vs r).left)
 
 pub loop-next-smaller-in-Columns : goal.loop-next-smaller-in-Columns
-loop-next-smaller-in-Columns c = let k = c in let a = k in let q = a.requires in fewer q.t a.args.words.now a.args.back a.args.kinds.now a.args.rs q.ready.loaded c.in-Columns.next k.loop-next.c (covered (goal.at.loop-next-smaller-in-Columns c).After-cover_at-cover c.in-Columns.is q.t q.area q.vs q.ready).3
+loop-next-smaller-in-Columns c = let q = c.requires in fewer q.t c.args.words.now c.args.back c.args.kinds.now c.args.rs q.ready.loaded c.in-Columns.next c.loop-next.c (covered (goal.at.loop-next-smaller-in-Columns c).After-cover_at-cover c.in-Columns.is q.t q.area q.vs q.ready).3
 
 pub loop-next-preserved-in-Columns : goal.loop-next-preserved-in-Columns
-loop-next-preserved-in-Columns c = λ t area vs r. let k = c in let a = k in let u = k.loop-next.c in let n = covered (goal.at.loop-next-preserved-in-Columns c).After-cover_at-cover c.in-Columns.is t area vs r in let e = put_small vs n.0 _ (met_of t (get_or a.args.words.now u.index 0)) u.state.taken (what_is a.args.back r u n.0 _ n.4 n.5) (sym (c.too_large.ensures t area vs a.args.kinds.now n.0.width (placeable a.args.back r u n.0 _ n.4 n.5)) ∙ c.if-too_large.false) in record { stands = n.2; left = sym e ∙ sym (ap (judged vs) n.1) ∙ (k.loop-next.invariant t area vs r).left }
+loop-next-preserved-in-Columns c = λ t area vs r. let u = c.loop-next.c in let n = covered (goal.at.loop-next-preserved-in-Columns c).After-cover_at-cover c.in-Columns.is t area vs r in let e = put_small vs n.0 _ (met_of t (get_or c.args.words.now u.index 0)) u.state.taken (what_is c.args.back r u n.0 _ n.4 n.5) (sym (c.too_large.ensures t area vs c.args.kinds.now n.0.width (placeable c.args.back r u n.0 _ n.4 n.5)) ∙ c.if-too_large.false) in record { stands = n.2; left = sym e ∙ sym (ap (judged vs) n.1) ∙ (c.loop-next.invariant t area vs r).left }
 
 pub loop-next-smaller-in-Moves : goal.loop-next-smaller-in-Moves
-loop-next-smaller-in-Moves c = let k = c in let a = k in let q = a.requires in fewer q.t a.args.words.now a.args.back a.args.kinds.now a.args.rs q.ready.loaded c.in-Moves.next k.loop-next.c (moved (goal.at.loop-next-smaller-in-Moves c).After-cover_at-cover c.in-Moves.is q.t q.area q.vs q.ready).2
+loop-next-smaller-in-Moves c = let q = c.requires in fewer q.t c.args.words.now c.args.back c.args.kinds.now c.args.rs q.ready.loaded c.in-Moves.next c.loop-next.c (moved (goal.at.loop-next-smaller-in-Moves c).After-cover_at-cover c.in-Moves.is q.t q.area q.vs q.ready).2
 
 pub loop-next-preserved-in-Moves : goal.loop-next-preserved-in-Moves
-loop-next-preserved-in-Moves c = λ t area vs r. let k = c in let n = moved (goal.at.loop-next-preserved-in-Moves c).After-cover_at-cover c.in-Moves.is t area vs r in record { stands = n.1; left = sym (ap (judged vs) n.0) ∙ (k.loop-next.invariant t area vs r).left }
+loop-next-preserved-in-Moves c = λ t area vs r. let n = moved (goal.at.loop-next-preserved-in-Moves c).After-cover_at-cover c.in-Moves.is t area vs r in record { stands = n.1; left = sym (ap (judged vs) n.0) ∙ (c.loop-next.invariant t area vs r).left }
 
 pub advance-turn-requires : goal.advance-turn-requires
-advance-turn-requires c = let k = c in let a = k in let q = a.requires in standing q.t a.args.words.now a.args.back a.args.kinds.now a.args.rs q.ready.loaded k.loop-next.c.state (k.loop-next.invariant q.t q.area q.vs q.ready).stands
+advance-turn-requires c = let q = c.requires in standing q.t c.args.words.now c.args.back c.args.kinds.now c.args.rs q.ready.loaded c.loop-next.c.state (c.loop-next.invariant q.t q.area q.vs q.ready).stands
 
 pub loop-next-smaller : goal.loop-next-smaller
-loop-next-smaller c = let k = c in let j = k in let a = j in let q = a.requires in fewer q.t a.args.words.now a.args.back a.args.kinds.now a.args.rs q.ready.loaded c.in-Goes.next j.loop-next.c (known (goal.at.loop-next-smaller c).After-advance-turn (turn.Goes _) c.in-Goes.is q.t q.area q.vs q.ready).2
+loop-next-smaller c = let q = c.requires in fewer q.t c.args.words.now c.args.back c.args.kinds.now c.args.rs q.ready.loaded c.in-Goes.next c.loop-next.c (known (goal.at.loop-next-smaller c).After-advance-turn (turn.Goes _) c.in-Goes.is q.t q.area q.vs q.ready).2
 
 pub loop-next-preserved : goal.loop-next-preserved
-loop-next-preserved c = λ t area vs r. let k = c in let j = k in let n = known (goal.at.loop-next-preserved c).After-advance-turn (turn.Goes _) c.in-Goes.is t area vs r in record { stands = n.1; left = sym (ap (judged vs) n.0) ∙ (j.loop-next.invariant t area vs r).left }
+loop-next-preserved c = λ t area vs r. let n = known (goal.at.loop-next-preserved c).After-advance-turn (turn.Goes _) c.in-Goes.is t area vs r in record { stands = n.1; left = sym (ap (judged vs) n.0) ∙ (c.loop-next.invariant t area vs r).left }
 
 pub returns-in-Covers : goal.returns-in-Covers
 returns-in-Covers c = λ t area vs r. absurd (uncovered (goal.at.returns-in-Covers c).After-advance-turn c.in-Covers.is t area vs r)
 
 pub returns-in-Refused : goal.returns-in-Refused
 unfolding judged
-returns-in-Refused c = λ t area vs r. let k = c in let j = k in ap ending_of (sym (ap (judged vs) (known (goal.at.returns-in-Refused c).After-advance-turn (turn.Refused _) c.in-Refused.is t area vs r)) ∙ (j.loop-next.invariant t area vs r).left)
+returns-in-Refused c = λ t area vs r. ap ending_of (sym (ap (judged vs) (known (goal.at.returns-in-Refused c).After-advance-turn (turn.Refused _) c.in-Refused.is t area vs r)) ∙ (c.loop-next.invariant t area vs r).left)
 
 pub returns-in-Ends : goal.returns-in-Ends
 unfolding judged
-returns-in-Ends c = λ t area vs r. let k = c in let j = k in ap ending_of (sym (ap (judged vs) (known (goal.at.returns-in-Ends c).After-advance-turn (turn.Ends _) c.in-Ends.is t area vs r)) ∙ (j.loop-next.invariant t area vs r).left)
+returns-in-Ends c = λ t area vs r. ap ending_of (sym (ap (judged vs) (known (goal.at.returns-in-Ends c).After-advance-turn (turn.Ends _) c.in-Ends.is t area vs r)) ∙ (c.loop-next.invariant t area vs r).left)

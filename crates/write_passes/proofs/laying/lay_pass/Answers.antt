@@ -1,4 +1,3 @@
--- the walk was accepted, for the values vs
 use mathlib.Core.Path.{◌≡◌, refl, sym, ap, subst, ◌∙◌}
 use mathlib.Core.Bool.{Bool, cond}
 use mathlib.Core.List.{List, map}
@@ -51,20 +50,16 @@ known : (c : After-advance-turn) (u : Turn) → c.advance-turn.result ≡ u → 
     → passes.Passed c.args.chars.now c.args.words.now c.args.back c.args.kinds.now c.args.rs q.ready.loaded
     c.loop-at.c u
 known c u e vs q =
-    let a = c in
-    let l = c in
-    let t = a.args.chars.now in
-    passes.passed t a.args.words.now a.args.back a.args.kinds.now a.args.rs q.ready.loaded l.loop-at.c (l.loop-at.invariant.0 vs q).stands c.advance-turn.result u
-    (c.advance-turn.ensures t q.ready.loaded.sound (l.has_field-part.ensures t)) e
+    let t = c.args.chars.now in
+    passes.passed t c.args.words.now c.args.back c.args.kinds.now c.args.rs q.ready.loaded c.loop-at.c (c.loop-at.invariant.0 vs q).stands c.advance-turn.result u
+    (c.advance-turn.ensures t q.ready.loaded.sound (c.has_field-part.ensures t)) e
 
 -- where nothing is covered, `advance` covers nothing
 uncovered : (c : After-advance-turn) {at w : ℕ} {n : Cursor} → c.advance-turn.result ≡ turn.Covers at w n → (vs : List Value) → Passed c.args.chars.now c.args.area.now vs c.args.words.now c.args.back c.args.kinds.now c.args.amounts.now c.args.details.now c.args.rs → ⊥
 uncovered c e vs q =
-    let a = c in
-    let l = c in
-    let t = a.args.chars.now in
-    covers_not (c.cover_at-cover.ensures t q.ready.loaded.sound (l.has_field-part.ensures t)) c.in-Nothing.is
-    (sym (c.advance-turn.ensures t q.ready.loaded.sound (l.has_field-part.ensures t)) ∙ e)
+    let t = c.args.chars.now in
+    covers_not (c.cover_at-cover.ensures t q.ready.loaded.sound (c.has_field-part.ensures t)) c.in-Nothing.is
+    (sym (c.advance-turn.ensures t q.ready.loaded.sound (c.has_field-part.ensures t)) ∙ e)
 
 -- the word of the next item, its element, and the walk from a cursor on
 abbrev word : After-cover_at-cover → ℕ
@@ -117,49 +112,49 @@ goes_on c {a} {w} {n} e b stars bytes g vs q =
     }
 
 pub loop-at-init : goal.loop-at-init
-loop-at-init c = rw c.first_cursor-c.ensures (let a = c in ((λ vs q. let e = passes.first_walk a.args.chars.now a.args.words.now a.args.back a.args.kinds.now a.args.rs q.ready.loaded in record { stands = passes.first_stands a.args.chars.now a.args.words.now a.args.back a.args.kinds.now a.args.rs q.ready.loaded; accepts = ap (judged vs) e ∙ q.accepts; bytes = ap (λ (x : Trace). laid a.args.rs.width (characters a.args.area.now vs) x a.args.dst.now) e; stars = ap (λ (x : Trace). 0 + starred_in vs x) e ∙ zero-add _ }), refl))
+loop-at-init c = rw c.first_cursor-c.ensures (((λ vs q. let e = passes.first_walk c.args.chars.now c.args.words.now c.args.back c.args.kinds.now c.args.rs q.ready.loaded in record { stands = passes.first_stands c.args.chars.now c.args.words.now c.args.back c.args.kinds.now c.args.rs q.ready.loaded; accepts = ap (judged vs) e ∙ q.accepts; bytes = ap (λ (x : Trace). laid c.args.rs.width (characters c.args.area.now vs) x c.args.dst.now) e; stars = ap (λ (x : Trace). 0 + starred_in vs x) e ∙ zero-add _ }), refl))
 
 pub cover_at-cover-requires : goal.cover_at-cover-requires
-cover_at-cover-requires c = let a = c in let q = a.requires.1 in passes.standing a.args.chars.now a.args.words.now a.args.back a.args.kinds.now a.args.rs q.passed.ready.loaded c.loop-at.c.state (c.loop-at.invariant.0 q.vs q.passed).stands
+cover_at-cover-requires c = let q = c.requires.1 in passes.standing c.args.chars.now c.args.words.now c.args.back c.args.kinds.now c.args.rs q.passed.ready.loaded c.loop-at.c.state (c.loop-at.invariant.0 q.vs q.passed).stands
 
 pub offset_bounds-words-index : goal.offset_bounds-words-index
-offset_bounds-words-index c = let k = c in let a = k in let q = a.requires.1 in let n = covered (goal.at.offset_bounds-words-index c).After-cover_at-cover c.in-Columns.is q.vs q.passed in let h : k.loop-at.c.index < length a.args.words.now = in_words a.args.back q.passed.ready k.loop-at.c n.0 _ n.4 n.5 in search rules
+offset_bounds-words-index c = let q = c.requires.1 in let n = covered (goal.at.offset_bounds-words-index c).After-cover_at-cover c.in-Columns.is q.vs q.passed in let h : c.loop-at.c.index < length c.args.words.now = in_words c.args.back q.passed.ready c.loop-at.c n.0 _ n.4 n.5 in search rules
 
 pub bounds-words-index : goal.bounds-words-index
-bounds-words-index c = let k = c in let a = k in let q = a.requires.1 in let n = covered (goal.at.bounds-words-index c).After-cover_at-cover c.in-Columns.is q.vs q.passed in in_words a.args.back q.passed.ready k.loop-at.c n.0 _ n.4 n.5
+bounds-words-index c = let q = c.requires.1 in let n = covered (goal.at.bounds-words-index c).After-cover_at-cover c.in-Columns.is q.vs q.passed in in_words c.args.back q.passed.ready c.loop-at.c n.0 _ n.4 n.5
 
 pub put-requires : goal.put-requires
-put-requires c = let k = c in let a = k in let q = a.requires.1 in let n = covered (goal.at.put-requires c).After-cover_at-cover c.in-Columns.is q.vs q.passed in let l = k.loop-at.invariant.0 q.vs q.passed in let t = a.args.chars.now in let r = passes.columns_room t a.args.words.now a.args.back a.args.kinds.now a.args.rs q.passed.ready.loaded k.loop-at.c n.0 _ n.4 n.5 l.stands in (omega (arith, r, n.6, n.7, a.requires.0, k.loop-at.invariant.1), record { vs = q.vs; placed = placed (goal.at.put-requires c).After-cover_at-cover c.in-Columns.is q.vs q.passed })
+put-requires c = let q = c.requires.1 in let n = covered (goal.at.put-requires c).After-cover_at-cover c.in-Columns.is q.vs q.passed in let l = c.loop-at.invariant.0 q.vs q.passed in let t = c.args.chars.now in let r = passes.columns_room t c.args.words.now c.args.back c.args.kinds.now c.args.rs q.passed.ready.loaded c.loop-at.c n.0 _ n.4 n.5 l.stands in (omega (arith, r, n.6, n.7, c.requires.0, c.loop-at.invariant.1), record { vs = q.vs; placed = placed (goal.at.put-requires c).After-cover_at-cover c.in-Columns.is q.vs q.passed })
 
 pub overflow_add-starred : goal.overflow_add-starred
-overflow_add-starred c = let k = c in let a = k in let q = a.requires.1 in let l = k.loop-at.invariant.0 q.vs q.passed in let h = sheet_of a.args.chars.now a.args.words.now a.args.back a.args.kinds.now a.args.rs in let f = few_starred h q.vs q.passed.n q.passed.accepts in let e : length (map kind_from a.args.kinds.now) ≡ length a.args.kinds.now = length-map a.args.kinds.now kind_from in omega (arith, f, e, l.stars, q.passed.ready.loaded.few)
+overflow_add-starred c = let q = c.requires.1 in let l = c.loop-at.invariant.0 q.vs q.passed in let h = sheet_of c.args.chars.now c.args.words.now c.args.back c.args.kinds.now c.args.rs in let f = few_starred h q.vs q.passed.n q.passed.accepts in let e : length (map kind_from c.args.kinds.now) ≡ length c.args.kinds.now = length-map c.args.kinds.now kind_from in omega (arith, f, e, l.stars, q.passed.ready.loaded.few)
 
 pub loop-at-smaller-then-put : goal.loop-at-smaller-then-put
-loop-at-smaller-then-put c = let k = c in let a = k in let q = a.requires.1 in passes.fewer a.args.chars.now a.args.words.now a.args.back a.args.kinds.now a.args.rs q.passed.ready.loaded c.in-Columns.next k.loop-at.c (covered (goal.at.loop-at-smaller-then-put c).After-cover_at-cover c.in-Columns.is q.vs q.passed).3
+loop-at-smaller-then-put c = let q = c.requires.1 in passes.fewer c.args.chars.now c.args.words.now c.args.back c.args.kinds.now c.args.rs q.passed.ready.loaded c.in-Columns.next c.loop-at.c (covered (goal.at.loop-at-smaller-then-put c).After-cover_at-cover c.in-Columns.is q.vs q.passed).3
 
 pub loop-at-preserved-then-put : goal.loop-at-preserved-then-put
-loop-at-preserved-then-put c = let k = c in (goes_on (goal.at.loop-at-preserved-then-put c).After-cover_at-cover c.in-Columns.is c.put.result c.put.ensures.stars c.put.ensures.bytes (rw c.if-put.true), c.put.auto.dst ∙ k.loop-at.invariant.1)
+loop-at-preserved-then-put c = (goes_on (goal.at.loop-at-preserved-then-put c).After-cover_at-cover c.in-Columns.is c.put.result c.put.ensures.stars c.put.ensures.bytes (rw c.if-put.true), c.put.auto.dst ∙ c.loop-at.invariant.1)
 
 pub loop-at-smaller-else-put : goal.loop-at-smaller-else-put
-loop-at-smaller-else-put c = let k = c in let a = k in let q = a.requires.1 in passes.fewer a.args.chars.now a.args.words.now a.args.back a.args.kinds.now a.args.rs q.passed.ready.loaded c.in-Columns.next k.loop-at.c (covered (goal.at.loop-at-smaller-else-put c).After-cover_at-cover c.in-Columns.is q.vs q.passed).3
+loop-at-smaller-else-put c = let q = c.requires.1 in passes.fewer c.args.chars.now c.args.words.now c.args.back c.args.kinds.now c.args.rs q.passed.ready.loaded c.in-Columns.next c.loop-at.c (covered (goal.at.loop-at-smaller-else-put c).After-cover_at-cover c.in-Columns.is q.vs q.passed).3
 
 pub loop-at-preserved-else-put : goal.loop-at-preserved-else-put
-loop-at-preserved-else-put c = let k = c in (goes_on (goal.at.loop-at-preserved-else-put c).After-cover_at-cover c.in-Columns.is c.put.result c.put.ensures.stars c.put.ensures.bytes (rw c.if-put.false (omega arith)), c.put.auto.dst ∙ k.loop-at.invariant.1)
+loop-at-preserved-else-put c = (goes_on (goal.at.loop-at-preserved-else-put c).After-cover_at-cover c.in-Columns.is c.put.result c.put.ensures.stars c.put.ensures.bytes (rw c.if-put.false (omega arith)), c.put.auto.dst ∙ c.loop-at.invariant.1)
 
 pub loop-at-smaller-in-Moves : goal.loop-at-smaller-in-Moves
-loop-at-smaller-in-Moves c = let k = c in let a = k in let q = a.requires.1 in passes.fewer a.args.chars.now a.args.words.now a.args.back a.args.kinds.now a.args.rs q.passed.ready.loaded c.in-Moves.next k.loop-at.c (moved (goal.at.loop-at-smaller-in-Moves c).After-cover_at-cover c.in-Moves.is q.vs q.passed).2
+loop-at-smaller-in-Moves c = let q = c.requires.1 in passes.fewer c.args.chars.now c.args.words.now c.args.back c.args.kinds.now c.args.rs q.passed.ready.loaded c.in-Moves.next c.loop-at.c (moved (goal.at.loop-at-smaller-in-Moves c).After-cover_at-cover c.in-Moves.is q.vs q.passed).2
 
 pub loop-at-preserved-in-Moves : goal.loop-at-preserved-in-Moves
-loop-at-preserved-in-Moves c = let k = c in let a = k in ((λ vs q. let n = moved (goal.at.loop-at-preserved-in-Moves c).After-cover_at-cover c.in-Moves.is vs q in let l = k.loop-at.invariant.0 vs q in record { stands = n.1; accepts = sym (ap (judged vs) n.0) ∙ l.accepts; bytes = sym (ap (λ (x : Trace). laid a.args.rs.width (characters a.args.area.now vs) x k.loop-at.dst) n.0) ∙ l.bytes; stars = sym (ap (λ (x : Trace). k.loop-at.starred + starred_in vs x) n.0) ∙ l.stars }), k.loop-at.invariant.1)
+loop-at-preserved-in-Moves c = ((λ vs q. let n = moved (goal.at.loop-at-preserved-in-Moves c).After-cover_at-cover c.in-Moves.is vs q in let l = c.loop-at.invariant.0 vs q in record { stands = n.1; accepts = sym (ap (judged vs) n.0) ∙ l.accepts; bytes = sym (ap (λ (x : Trace). laid c.args.rs.width (characters c.args.area.now vs) x c.loop-at.dst) n.0) ∙ l.bytes; stars = sym (ap (λ (x : Trace). c.loop-at.starred + starred_in vs x) n.0) ∙ l.stars }), c.loop-at.invariant.1)
 
 pub advance-turn-requires : goal.advance-turn-requires
-advance-turn-requires c = let k = c in let a = k in let q = a.requires.1 in passes.standing a.args.chars.now a.args.words.now a.args.back a.args.kinds.now a.args.rs q.passed.ready.loaded k.loop-at.c.state (k.loop-at.invariant.0 q.vs q.passed).stands
+advance-turn-requires c = let q = c.requires.1 in passes.standing c.args.chars.now c.args.words.now c.args.back c.args.kinds.now c.args.rs q.passed.ready.loaded c.loop-at.c.state (c.loop-at.invariant.0 q.vs q.passed).stands
 
 pub loop-at-smaller : goal.loop-at-smaller
-loop-at-smaller c = let k = c in let j = k in let a = j in let q = a.requires.1 in passes.fewer a.args.chars.now a.args.words.now a.args.back a.args.kinds.now a.args.rs q.passed.ready.loaded c.in-Goes.next j.loop-at.c (known (goal.at.loop-at-smaller c).After-advance-turn (turn.Goes _) c.in-Goes.is q.vs q.passed).2
+loop-at-smaller c = let q = c.requires.1 in passes.fewer c.args.chars.now c.args.words.now c.args.back c.args.kinds.now c.args.rs q.passed.ready.loaded c.in-Goes.next c.loop-at.c (known (goal.at.loop-at-smaller c).After-advance-turn (turn.Goes _) c.in-Goes.is q.vs q.passed).2
 
 pub loop-at-preserved : goal.loop-at-preserved
-loop-at-preserved c = let k = c in let j = k in let a = j in ((λ vs q. let n = known (goal.at.loop-at-preserved c).After-advance-turn (turn.Goes _) c.in-Goes.is vs q in let l = j.loop-at.invariant.0 vs q in record { stands = n.1; accepts = sym (ap (judged vs) n.0) ∙ l.accepts; bytes = sym (ap (λ (x : Trace). laid a.args.rs.width (characters a.args.area.now vs) x j.loop-at.dst) n.0) ∙ l.bytes; stars = sym (ap (λ (x : Trace). j.loop-at.starred + starred_in vs x) n.0) ∙ l.stars }), j.loop-at.invariant.1)
+loop-at-preserved c = ((λ vs q. let n = known (goal.at.loop-at-preserved c).After-advance-turn (turn.Goes _) c.in-Goes.is vs q in let l = c.loop-at.invariant.0 vs q in record { stands = n.1; accepts = sym (ap (judged vs) n.0) ∙ l.accepts; bytes = sym (ap (λ (x : Trace). laid c.args.rs.width (characters c.args.area.now vs) x c.loop-at.dst) n.0) ∙ l.bytes; stars = sym (ap (λ (x : Trace). c.loop-at.starred + starred_in vs x) n.0) ∙ l.stars }), c.loop-at.invariant.1)
 
 pub shape_of-dst-in-Covers : goal.shape_of-dst-in-Covers
 shape_of-dst-in-Covers c = c.loop-at.invariant.1
@@ -175,9 +170,9 @@ shape_of-dst-in-Refused c = c.loop-at.invariant.1
 
 pub returns-in-Refused : goal.returns-in-Refused
 unfolding laid starred_in
-returns-in-Refused c = let k = c in let j = k in let a = j in record {
-  stars = (λ vs q. let e = known (goal.at.returns-in-Refused c).After-advance-turn (turn.Refused _) c.in-Refused.is vs q in let l = j.loop-at.invariant.0 vs q in sym (add-zero _) ∙ sym (ap (λ (y : Trace). j.loop-at.starred + starred_in vs y) e) ∙ l.stars);
-  bytes = (λ vs q. let e = known (goal.at.returns-in-Refused c).After-advance-turn (turn.Refused _) c.in-Refused.is vs q in let l = j.loop-at.invariant.0 vs q in sym (ap (λ (y : Trace). laid a.args.rs.width (characters a.args.area.now vs) y j.loop-at.dst) e) ∙ l.bytes);
+returns-in-Refused c = record {
+  stars = (λ vs q. let e = known (goal.at.returns-in-Refused c).After-advance-turn (turn.Refused _) c.in-Refused.is vs q in let l = c.loop-at.invariant.0 vs q in sym (add-zero _) ∙ sym (ap (λ (y : Trace). c.loop-at.starred + starred_in vs y) e) ∙ l.stars);
+  bytes = (λ vs q. let e = known (goal.at.returns-in-Refused c).After-advance-turn (turn.Refused _) c.in-Refused.is vs q in let l = c.loop-at.invariant.0 vs q in sym (ap (λ (y : Trace). laid c.args.rs.width (characters c.args.area.now vs) y c.loop-at.dst) e) ∙ l.bytes);
 }
 
 pub shape_of-dst-in-Ends : goal.shape_of-dst-in-Ends
@@ -185,7 +180,7 @@ shape_of-dst-in-Ends c = c.loop-at.invariant.1
 
 pub returns-in-Ends : goal.returns-in-Ends
 unfolding laid starred_in
-returns-in-Ends c = let k = c in let j = k in let a = j in record {
-  stars = (λ vs q. let e = known (goal.at.returns-in-Ends c).After-advance-turn (turn.Ends _) c.in-Ends.is vs q in let l = j.loop-at.invariant.0 vs q in sym (add-zero _) ∙ sym (ap (λ (y : Trace). j.loop-at.starred + starred_in vs y) e) ∙ l.stars);
-  bytes = (λ vs q. let e = known (goal.at.returns-in-Ends c).After-advance-turn (turn.Ends _) c.in-Ends.is vs q in let l = j.loop-at.invariant.0 vs q in sym (ap (λ (y : Trace). laid a.args.rs.width (characters a.args.area.now vs) y j.loop-at.dst) e) ∙ l.bytes);
+returns-in-Ends c = record {
+  stars = (λ vs q. let e = known (goal.at.returns-in-Ends c).After-advance-turn (turn.Ends _) c.in-Ends.is vs q in let l = c.loop-at.invariant.0 vs q in sym (add-zero _) ∙ sym (ap (λ (y : Trace). c.loop-at.starred + starred_in vs y) e) ∙ l.stars);
+  bytes = (λ vs q. let e = known (goal.at.returns-in-Ends c).After-advance-turn (turn.Ends _) c.in-Ends.is vs q in let l = c.loop-at.invariant.0 vs q in sym (ap (λ (y : Trace). laid c.args.rs.width (characters c.args.area.now vs) y c.loop-at.dst) e) ∙ l.bytes);
 }
