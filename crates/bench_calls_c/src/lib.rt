@@ -3,7 +3,7 @@
 
 use bench_calls::calls;
 
-// Writes a list so many times; how many times it filled so many records.
+// `bench_calls::calls::bench_write`.
 #[unsafe(no_mangle)]
 pub extern "C" fn bench_write(
     times: usize,
@@ -21,8 +21,7 @@ pub extern "C" fn bench_write(
     )
 }
 
-// Reads the elements wanted so many times; how many times the number of one element, another one each time, was that of
-// `expected`.
+// `bench_calls::calls::bench_read`; `expected` is passed as a pointer alone.
 #[unsafe(no_mangle)]
 pub extern "C" fn bench_read(
     times: usize,
@@ -37,7 +36,7 @@ pub extern "C" fn bench_read(
     calls::bench_read(times, width, format, shapes, expected, count, area, records)
 }
 
-// Checks a format so many times; how many times it is accepted.
+// `bench_calls::calls::bench_check`.
 #[unsafe(no_mangle)]
 pub extern "C" fn bench_check(times: usize, format: &[u8]) -> usize {
     calls::bench_check(times, format)

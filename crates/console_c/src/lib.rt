@@ -7,8 +7,7 @@ ghost use Rattle.format_check.specs.Checked.{answer};
 ghost use Rattle.sheet_text.specs.FromListText.{answer_from, buffer_from};
 ghost use Rattle.console.specs.HostAnswers.{host_write_number, host_check_number};
 
-// Writes the list of a list text under the format into records of this width in the buffer. Answers the number of records
-// written, or the refusal's number negated; the buffer is then as it was.
+// `console::trimsheet_write`.
 #[unsafe(no_mangle)]
 pub extern "C" fn trimsheet_write(
     width: usize,
@@ -22,7 +21,7 @@ pub extern "C" fn trimsheet_write(
     console::trimsheet_write(width, format, text, records)
 }
 
-// Checks a format. Answers 0 where it is accepted, or the refusal's number negated.
+// `console::trimsheet_check`.
 #[unsafe(no_mangle)]
 pub extern "C" fn trimsheet_check(format: &[u8]) -> i64
     ensures { result ≡ host_check_number (answer (outcome format.now)) }

@@ -8,7 +8,8 @@ use std::io;
 use std::io::Read;
 
 // Reads until the buffer is full or the input ends; answers how many bytes stand from the buffer's front on. These are what the
-// reader gave, and the input's first ones, as many as the buffer holds.
+// reader gave, and the input's first ones, as many as the buffer holds. What stands behind them is left to the reader, and the
+// whole buffer where a read fails.
 pub fn read_full<R: Read>(reader: &mut R, buffer: &mut [u8]) -> io::Result<usize>
     ensures within { IfOk result (λ n. n ≤ length buffer.new) }
     ensures given { IfOk result (λ n. Consumes (R.remaining reader.old) (R.remaining reader.new) (take n buffer.new)) }

@@ -4,7 +4,7 @@
 use sheet_text::{OUTPUT, RECORD_BUFFER};
 use test_calls::{calls, texts};
 
-// Writes a list; number (0 accepted), place, records and starred go into `answer`.
+// `test_calls::calls::test_write`.
 #[unsafe(no_mangle)]
 pub extern "C" fn test_write(
     width: usize,
@@ -19,8 +19,7 @@ pub extern "C" fn test_write(
     calls::test_write(width, format, shapes, numbers, count, area, buffer, answer)
 }
 
-// Reads the elements wanted; all slots of the list given go into `given_shapes` and `given_numbers`, and number, place,
-// records, starred and the list's count into `answer`.
+// `test_calls::calls::test_read`.
 #[unsafe(no_mangle)]
 pub extern "C" fn test_read(
     width: usize,
@@ -48,14 +47,13 @@ pub extern "C" fn test_read(
     )
 }
 
-// Checks a format; number and place go into `answer`.
+// `test_calls::calls::test_check`.
 #[unsafe(no_mangle)]
 pub extern "C" fn test_check(format: &[u8], answer: &mut [usize]) {
     calls::test_check(format, answer)
 }
 
-// Reads a list text; all slots of the list given go into `shapes` and `numbers`, and number, place and the list's count into
-// `answer`.
+// `test_calls::texts::test_list_text`.
 #[unsafe(no_mangle)]
 pub extern "C" fn test_list_text(
     text: &[u8],
@@ -66,7 +64,7 @@ pub extern "C" fn test_list_text(
     texts::test_list_text(text, shapes, numbers, answer)
 }
 
-// The program's output for an input; both buffers are passed as pointers alone.
+// `test_calls::texts::test_sheet`; both buffers are passed as pointers alone.
 #[unsafe(no_mangle)]
 pub extern "C" fn test_sheet(
     input: &[u8],
