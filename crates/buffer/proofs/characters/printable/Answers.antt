@@ -1,5 +1,4 @@
 use mathlib.Core.Path.{sym, ◌∙◌}
-use borrow.Author.Tests.{not-true, not-false}
 use Rattle.buffer.proofs.PrintableBytes.{passed_none, passed_more, passed_not, passed_all}
 use Rattle.buffer.proofs.characters.printable.Goals as goal
 

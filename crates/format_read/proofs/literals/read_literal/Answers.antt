@@ -1,6 +1,5 @@
 use mathlib.Core.Path.{sym, ◌∙◌}
 use native.Mathlib.Omega.{arith}
-use borrow.Author.Tests.{not-true, not-false}
 use Rattle.format_read.proofs.LiteralSteps.{literal_none, literal_plain, literal_odd, literal_cut, literal_double, literal_empty, literal_all, literal_open}
 use Rattle.format_read.proofs.literals.read_literal.Goals as goal
 

@@ -1,7 +1,6 @@
 use mathlib.Core.Path.{◌≡◌, sym, ◌∙◌}
 use Rattle.list_elements.proofs.LimitLaws.{from_bits}
 use lib.Dec.{leb}
-use borrow.Author.Tests.{not-true, not-false}
 use lib.IntN.{nat_abs}
 use Rattle.number.specs.Limits.{largest}
 use Rattle.list_elements.proofs.limits.decimal_within.Goals as goal

@@ -2,7 +2,6 @@ use mathlib.Core.Path.{◌≡◌, refl, sym, ◌∙◌}
 use Prim.Native.Nat.{◌≤◌}
 use native.Mathlib.Omega.{arith}
 use lib.ListN.{length, get_or, length-set}
-use borrow.Author.Tests.{not-true, not-false}
 use Rattle.list_elements.specs.Elements.{value_of, zero_value, values}
 use Rattle.list_elements.specs.Limits.{may_be_wanted}
 use Rattle.list_elements.proofs.ApartLaws.{wanted_small, bad_not_good}

@@ -1,7 +1,6 @@
 use native.Mathlib.Omega.{arith}
 use mathlib.Core.Path.{sym, ◌∙◌}
 use lib.ListN.{get_or}
-use borrow.Author.Tests.{not-true, not-false}
 use Rattle.number.proofs.DigitLaws.{digit_bounds}
 use Rattle.list_text.proofs.DigitReads.{so_far_none, so_far_low, so_far_more, so_far_wrong, so_far_all, digits_few, digits_many, digits_wrong, digits_right}
 use Rattle.list_text.proofs.digits.read_digits.Goals as goal

@@ -2,7 +2,6 @@ use native.Mathlib.Omega.{arith}
 use mathlib.Core.Path.{sym, ◌∙◌}
 use Rattle.list_elements.proofs.LimitLaws.{from_bits}
 use lib.Seq.{length-take-le}
-use borrow.Author.Tests.{not-true, not-false}
 use Rattle.number.proofs.DigitLaws.{digit_bounds}
 use Rattle.list_text.proofs.ElementLaws.{decimal_short, decimal_unblank, decimal_places, decimal_right, decimal_wrong}
 use Prim.Native.Nat.{◌-◌}

@@ -1,6 +1,5 @@
 use native.Mathlib.Omega.{arith}
 use mathlib.Core.Path.{refl, sym, ◌∙◌}
-use borrow.Author.Tests.{not-true, not-false}
 use Rattle.list_text.proofs.CutLines.{cut_good, cut_bad}
 use Rattle.list_text.proofs.ReadLaws.{reading_none, reading_over, reading_bad, reading_more, reading_good, reading_list, answered_bad, answered_good}
 use Rattle.list_text.proofs.read.read_list.Goals as goal

@@ -1,6 +1,5 @@
 use mathlib.Core.Path.{sym, ◌∙◌}
 use native.Mathlib.Omega.{arith}
-use borrow.Author.Tests.{not-true, not-false}
 use lib.ListN.{length}
 use Rattle.sheet_rows.proofs.Loads.{roomy, run_loaded, run_sheet}
 use Rattle.sheet_read.proofs.ReadLaws.{list_refuses, no_room, no_record, walked}
