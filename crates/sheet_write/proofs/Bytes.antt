@@ -32,9 +32,9 @@ drop_blanked R n buffer =
     let k : 0 + length xs ≡ n * R = omega arith in
     drop_at xs (drop (0 + length xs) buffer) (n * R) l ∙ ap (λ (i : ℕ). drop i buffer) k
 
-get_d_blanked : (R n : ℕ) (buffer : List ℕ) → n * R ≤ length buffer → (i : ℕ) → i < n * R → get_or (blanked R n buffer) i 0 ≡ blank
+get_or_blanked : (R n : ℕ) (buffer : List ℕ) → n * R ≤ length buffer → (i : ℕ) → i < n * R → get_or (blanked R n buffer) i 0 ≡ blank
 unfolding blanked
-get_d_blanked R n buffer h i l =
+get_or_blanked R n buffer h i l =
     let xs : List ℕ = replicate (n * R) blank in
     let m : length xs ≡ n * R = length-replicate (n * R) blank in
     let z : 0 + i ≡ i = omega arith in
@@ -89,4 +89,4 @@ module _ (R n : ℕ) (characters : Placement → List ℕ) where
   written_blank r c t h from to none buffer room all =
       let l = length_blanked R n buffer room in
       laid_outside R n characters t (blanked R n buffer) (omega arith) all (offset R r c) (λ p m. outside_column R n p (all p m).0 r c from to (none p m))
-      ∙ get_d_blanked R n buffer room (offset R r c) (omega (arith, record-room r n R h))
+      ∙ get_or_blanked R n buffer room (offset R r c) (omega (arith, record-room r n R h))

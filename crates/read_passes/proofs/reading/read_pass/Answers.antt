@@ -50,28 +50,22 @@ uncovered c e t l =
     covers_not (c.cover_at-cover.ensures t l.sound (c.has_field-part.ensures t)) c.in-Nothing.is
     (sym (c.advance-turn.ensures t l.sound (c.has_field-part.ensures t)) ∙ e)
 
--- the same where `take_field` has answered
-found : (c : After-take_field) (t : List ℕ) (l : Loaded t c.args.words.now c.args.kinds.now c.args.rs)
-    → passes.Passed t c.args.words.now c.args.back c.args.kinds.now c.args.rs l c.loop-at.c (turn.Covers c.in-Columns.at c.in-Columns.width c.in-Columns.next)
-found c t l =
-    passes.passed t c.args.words.now c.args.back c.args.kinds.now c.args.rs l c.loop-at.c
-    (c.loop-at.invariant.0 t l).stands (turn.Covers _ _ _) (turn.Covers _ _ _)
-    (sym (covers_so (c.cover_at-cover.ensures t l.sound (c.has_field-part.ensures t)) c.in-Columns.is)) refl
-
 -- what that of `take_field` says
 took : (c : After-take_field) (r : Taken) → c.take_field.result ≡ r → (t : List ℕ) (l : Loaded t c.args.words.now c.args.kinds.now c.args.rs)
+    → passes.Passed t c.args.words.now c.args.back c.args.kinds.now c.args.rs l c.loop-at.c (turn.Covers c.in-Columns.at c.in-Columns.width c.in-Columns.next)
     → TakenAs c.args.records.now (map kind_from c.args.kinds.now) c.in-Columns.at c.in-Columns.width
     (what_of (met_of t (get_or c.args.words.now c.loop-at.c.index 0)) c.loop-at.c.state.taken) r
-took c r e t l =
+took c r e t l k =
     rw e at (c.take_field.ensures t (map kind_from c.args.kinds.now) c.loop-at.c.state.taken
-    (covers_word c.args.back l c.args.records.now (c.loop-at.invariant.0 t l) c.in-Columns.at c.in-Columns.width c.in-Columns.next (found c t l)))
+    (covers_word c.args.back l c.args.records.now (c.loop-at.invariant.0 t l) c.in-Columns.at c.in-Columns.width c.in-Columns.next k))
 
 -- the element taken is one of those wanted
-taken-known : (c : After-take_field) {a : ℤ} {d : ℕ} → c.take_field.result ≡ Element a d → c.loop-at.c.state.taken < length c.args.kinds.now
-taken-known c {a} {d} e =
+taken-known : (c : After-take_field) {a : ℤ} {d : ℕ} → c.take_field.result ≡ Element a d → passes.Passed c.requires.0.t c.args.words.now c.args.back c.args.kinds.now c.args.rs c.requires.0.loaded c.loop-at.c (turn.Covers c.in-Columns.at c.in-Columns.width c.in-Columns.next)
+    → c.loop-at.c.state.taken < length c.args.kinds.now
+taken-known c {a} {d} e k =
     let q = c.requires.0 in
     in-kinds c.args.back q.loaded c.args.records.now (c.loop-at.invariant.0 q.t q.loaded) c.in-Columns.at c.in-Columns.width c.in-Columns.next
-    (found c q.t q.loaded) a d (took c (Element a d) e q.t q.loaded)
+    k a d (took c (Element a d) e q.t q.loaded k)
 
 pub loop-at-init : goal.loop-at-init
 loop-at-init c = rw c.first_cursor-c.ensures ((λ t l. first_gathering c.args.back l c.args.records.now c.args.amounts.now c.args.details.now), refl, refl)
@@ -92,7 +86,7 @@ pub loop-at-smaller-in-Literal : goal.loop-at-smaller-in-Literal
 loop-at-smaller-in-Literal c = let q = c.requires.0 in passes.fewer q.t c.args.words.now c.args.back c.args.kinds.now c.args.rs q.loaded c.in-Columns.next c.loop-at.c (covered (goal.at.loop-at-smaller-in-Literal c).After-cover_at-cover c.in-Columns.is q.t q.loaded).3
 
 pub loop-at-preserved-in-Literal : goal.loop-at-preserved-in-Literal
-loop-at-preserved-in-Literal c = ((λ t l. passes_literal c.args.back l c.args.records.now (c.loop-at.invariant.0 t l) c.in-Columns.at c.in-Columns.width c.in-Columns.next (covered (goal.at.loop-at-preserved-in-Literal c).After-cover_at-cover c.in-Columns.is t l) (took (goal.at.loop-at-preserved-in-Literal c).After-take_field Literal c.in-Literal.is t l)), c.loop-at.invariant.1, c.loop-at.invariant.2)
+loop-at-preserved-in-Literal c = ((λ t l. passes_literal c.args.back l c.args.records.now (c.loop-at.invariant.0 t l) c.in-Columns.at c.in-Columns.width c.in-Columns.next (covered (goal.at.loop-at-preserved-in-Literal c).After-cover_at-cover c.in-Columns.is t l) (took (goal.at.loop-at-preserved-in-Literal c).After-take_field Literal c.in-Literal.is t l (covered (goal.at.loop-at-preserved-in-Literal c).After-cover_at-cover c.in-Columns.is t l))), c.loop-at.invariant.1, c.loop-at.invariant.2)
 
 pub shape_of-amounts-in-Nothing-take_field : goal.shape_of-amounts-in-Nothing-take_field
 shape_of-amounts-in-Nothing-take_field c = c.loop-at.invariant.1
@@ -101,25 +95,25 @@ pub shape_of-details-in-Nothing-take_field : goal.shape_of-details-in-Nothing-ta
 shape_of-details-in-Nothing-take_field c = c.loop-at.invariant.2
 
 pub returns-in-Nothing-take_field : goal.returns-in-Nothing-take_field
-returns-in-Nothing-take_field c = λ t l. read_refused c.args.back l c.args.records.now (takes_nothing c.args.back l c.args.records.now (c.loop-at.invariant.0 t l) c.in-Columns.at c.in-Columns.width c.in-Columns.next (covered (goal.at.returns-in-Nothing-take_field c).After-cover_at-cover c.in-Columns.is t l) (took (goal.at.returns-in-Nothing-take_field c).After-take_field Nothing c.in-Nothing-take_field.is t l))
+returns-in-Nothing-take_field c = λ t l. read_refused c.args.back l c.args.records.now (takes_nothing c.args.back l c.args.records.now (c.loop-at.invariant.0 t l) c.in-Columns.at c.in-Columns.width c.in-Columns.next (covered (goal.at.returns-in-Nothing-take_field c).After-cover_at-cover c.in-Columns.is t l) (took (goal.at.returns-in-Nothing-take_field c).After-take_field Nothing c.in-Nothing-take_field.is t l (covered (goal.at.returns-in-Nothing-take_field c).After-cover_at-cover c.in-Columns.is t l)))
 
 pub offset_bounds-amounts-place : goal.offset_bounds-amounts-place
-offset_bounds-amounts-place c = let h = taken-known (goal.at.offset_bounds-amounts-place c).After-take_field c.in-Element.is in omega (arith, h, c.well_formed, c.requires.2)
+offset_bounds-amounts-place c = let h = taken-known (goal.at.offset_bounds-amounts-place c).After-take_field c.in-Element.is (covered (goal.at.offset_bounds-amounts-place c).After-cover_at-cover c.in-Columns.is c.requires.0.t c.requires.0.loaded) in omega (arith, h, c.well_formed, c.requires.2)
 
 pub bounds-amounts-place : goal.bounds-amounts-place
-bounds-amounts-place c = omega (arith, taken-known (goal.at.bounds-amounts-place c).After-take_field c.in-Element.is, c.loop-at.invariant.1, c.requires.2)
+bounds-amounts-place c = omega (arith, taken-known (goal.at.bounds-amounts-place c).After-take_field c.in-Element.is (covered (goal.at.bounds-amounts-place c).After-cover_at-cover c.in-Columns.is c.requires.0.t c.requires.0.loaded), c.loop-at.invariant.1, c.requires.2)
 
 pub offset_bounds-details-place : goal.offset_bounds-details-place
-offset_bounds-details-place c = let h = taken-known (goal.at.offset_bounds-details-place c).After-take_field c.in-Element.is in omega (arith, h, c.well_formed, c.requires.3)
+offset_bounds-details-place c = let h = taken-known (goal.at.offset_bounds-details-place c).After-take_field c.in-Element.is (covered (goal.at.offset_bounds-details-place c).After-cover_at-cover c.in-Columns.is c.requires.0.t c.requires.0.loaded) in omega (arith, h, c.well_formed, c.requires.3)
 
 pub bounds-details-place : goal.bounds-details-place
-bounds-details-place c = omega (arith, taken-known (goal.at.bounds-details-place c).After-take_field c.in-Element.is, c.loop-at.invariant.2, c.requires.3)
+bounds-details-place c = omega (arith, taken-known (goal.at.bounds-details-place c).After-take_field c.in-Element.is (covered (goal.at.bounds-details-place c).After-cover_at-cover c.in-Columns.is c.requires.0.t c.requires.0.loaded), c.loop-at.invariant.2, c.requires.3)
 
 pub loop-at-smaller-in-Element : goal.loop-at-smaller-in-Element
 loop-at-smaller-in-Element c = let q = c.requires.0 in passes.fewer q.t c.args.words.now c.args.back c.args.kinds.now c.args.rs q.loaded c.in-Columns.next c.loop-at.c (covered (goal.at.loop-at-smaller-in-Element c).After-cover_at-cover c.in-Columns.is q.t q.loaded).3
 
 pub loop-at-preserved-in-Element : goal.loop-at-preserved-in-Element
-loop-at-preserved-in-Element c = let v = c.loop-at.invariant in rw (from_bits c.in-Element.amount c.in-Element.known_told-in-Element-1-own.given.0.1) ((λ t l. takes_element c.args.back l c.args.records.now (v.0 t l) c.in-Columns.at c.in-Columns.width c.in-Columns.next (covered (goal.at.loop-at-preserved-in-Element c).After-cover_at-cover c.in-Columns.is t l) _ _ (took (goal.at.loop-at-preserved-in-Element c).After-take_field (Element _ _) c.in-Element.is t l) (omega (arith, v.1, c.requires.2)) (omega (arith, v.2, c.requires.3))), length-set c.loop-at.amounts c.loop-at.c.state.taken c.in-Element.amount ∙ v.1, length-set c.loop-at.details c.loop-at.c.state.taken c.in-Element.detail ∙ v.2)
+loop-at-preserved-in-Element c = let v = c.loop-at.invariant in rw (from_bits c.in-Element.amount c.in-Element.known_told-in-Element-1-own.given.0.1) ((λ t l. takes_element c.args.back l c.args.records.now (v.0 t l) c.in-Columns.at c.in-Columns.width c.in-Columns.next (covered (goal.at.loop-at-preserved-in-Element c).After-cover_at-cover c.in-Columns.is t l) _ _ (took (goal.at.loop-at-preserved-in-Element c).After-take_field (Element _ _) c.in-Element.is t l (covered (goal.at.loop-at-preserved-in-Element c).After-cover_at-cover c.in-Columns.is t l)) (omega (arith, v.1, c.requires.2)) (omega (arith, v.2, c.requires.3))), length-set c.loop-at.amounts c.loop-at.c.state.taken c.in-Element.amount ∙ v.1, length-set c.loop-at.details c.loop-at.c.state.taken c.in-Element.detail ∙ v.2)
 
 pub loop-at-smaller-in-Moves : goal.loop-at-smaller-in-Moves
 loop-at-smaller-in-Moves c = let q = c.requires.0 in passes.fewer q.t c.args.words.now c.args.back c.args.kinds.now c.args.rs q.loaded c.in-Moves.next c.loop-at.c (moved (goal.at.loop-at-smaller-in-Moves c).After-cover_at-cover c.in-Moves.is q.t q.loaded).2

@@ -9,8 +9,9 @@ use Rattle.sheet_text.specs.Input.{width_on, input_width}
 use Rattle.sheet_text.specs.SheetOutput.{record_buffer, sheet_output}
 use Rattle.sheet_text.proofs.Unread.{rest_unread}
 use Rattle.sheet_text.proofs.SheetLaws.{Split, split, Did, did, sheet_refused, sheet_accepted, output_put}
+use Rattle.sheet_walk.specs.declared.Answer.TheVariants.{Accepted}
 use Rattle.sheet_text.proofs.sheet.sheet.Goals as goal
-use Rattle.sheet_text.proofs.sheet.sheet.Goals.{After-write_list_text, In-Accepted}
+use Rattle.sheet_text.proofs.sheet.sheet.Goals.{After-write_list_text}
 
 -- the output for a beginning that is long enough
 beginning : (s whole : List ℕ) → s ≡ take 8192 whole → sheet_output s ≡ sheet_output whole
@@ -33,27 +34,24 @@ wrote c =
     c.write_list_text.ensures.answers c.write_list_text.ensures.bytes
 
 -- n records fit, each with a line feed
-lines_fit : (c : In-Accepted) → (c.in-Accepted.count * c.read_width-width.result ≤ record_buffer) × (c.in-Accepted.count ≤ record_buffer)
-lines_fit c =
-    let s : Split c.args.input.now c.line_end-first.result c.next_line-second.result c.line_end-end.result c.next_line-rest.result =
-    split c.args.input.now c.line_end-first.ensures.0 c.next_line-second.ensures.0 c.line_end-end.ensures.0 c.next_line-rest.ensures.0 in
-    let g : length c.args.records.now ≡ record_buffer = search rules in
-    let w = did c.args.input.now c.args.records.now g c.read_width-width.ensures s.width_line s.format_line s.list c.write_list_text.ensures.answers c.write_list_text.ensures.bytes in
-    let o = sheet_accepted c.args.input.now c.args.records.now g w c.in-Accepted.is in
-    let e = ap (λ (x : ℕ). c.in-Accepted.count * x) (c.read_width-width.ensures ∙ ap width_on s.width_line) in
-    (omega (arith, o.room, e), omega (arith, o.room, o.few))
+lines_fit : (c : After-write_list_text) {count starred : ℕ} → c.write_list_text.result ≡ Accepted count starred
+    → (count * c.read_width-width.result ≤ record_buffer) × (count ≤ record_buffer)
+lines_fit c {count} e =
+    let o = sheet_accepted c.args.input.now c.args.records.now (full c) (wrote c) e in
+    let w = ap (λ (x : ℕ). count * x) (width_is c) in
+    (omega (arith, o.room, w), omega (arith, o.room, o.few))
 
 pub slice_bounds-read_width-end : goal.slice_bounds-read_width-end
 slice_bounds-read_width-end c = sym (length-take-le _ _ c.line_end-first.ensures.1)
 
 pub put_records-at-requires : goal.put_records-at-requires
-put_records-at-requires c = let f = lines_fit (goal.at.put_records-at-requires c).In-Accepted in
+put_records-at-requires c = let f = lines_fit (goal.at.put_records-at-requires c).After-write_list_text c.in-Accepted.is in
     let r : length c.write_list_text.new.buffer ≡ 65536 = search rules in
     let o : length c.args.output.now ≡ 131200 = search rules in
     (omega (arith, f.0), omega (arith, f.0, f.1))
 
 pub put_counts-requires : goal.put_counts-requires
-put_counts-requires c = let f = lines_fit (goal.at.put_counts-requires c).In-Accepted in
+put_counts-requires c = let f = lines_fit (goal.at.put_counts-requires c).After-write_list_text c.in-Accepted.is in
     let o : length c.put_records-at.new.dst ≡ 131200 = search rules in
     omega (arith, f.0, f.1, c.put_records-at.ensures.2)
 
@@ -75,7 +73,7 @@ pub returns-in-Accepted : goal.returns-in-Accepted
 returns-in-Accepted c =
     let d = wrote (goal.at.returns-in-Accepted c).After-write_list_text in
     let o = sheet_accepted c.args.input.now c.args.records.now (full (goal.at.returns-in-Accepted c).After-write_list_text) d c.in-Accepted.is in
-    let f = lines_fit (goal.at.returns-in-Accepted c).In-Accepted in
+    let f = lines_fit (goal.at.returns-in-Accepted c).After-write_list_text c.in-Accepted.is in
     let w = output_put c.args.input.now _ o c.args.output.now (width_is (goal.at.returns-in-Accepted c).After-write_list_text) c.put_records-at.ensures.0 c.put_records-at.ensures.1 c.put_counts.ensures.0 c.put_counts.ensures.1 in
     record {
       length = w.0;
