@@ -1,34 +1,19 @@
-// The functions for C. A slice is passed as a pointer and a length.
-use format_check::FormatCheck;
+// The calls that are measured.
 use format_check::check::check;
 use list_elements::List;
 use sheet_read::read::read;
 use sheet_walk::Answer;
 use sheet_write::write::write;
 use test_calls::lists::list_from;
-use test_calls::values::number_of;
+use test_calls::slots::Slot;
 
-// Whether so many records were written or read.
+// Whether so many records were written.
 fn reaches(answer: Answer, wanted: usize) -> bool {
-    match answer {
-        Answer::Accepted {
-            records,
-            starred: _,
-        } => records == wanted,
-        Answer::Refused(_) => false,
-    }
-}
-
-fn accepted(answer: FormatCheck) -> bool {
-    match answer {
-        FormatCheck::Accepted => true,
-        FormatCheck::Refused(_) => false,
-    }
+    matches!(answer, Answer::Accepted { records, .. } if records == wanted)
 }
 
 // Writes a list so many times; how many times it filled so many records.
-#[unsafe(no_mangle)]
-pub extern "C" fn bench_write(
+pub fn bench_write(
     times: usize,
     width: usize,
     format: &[u8],
@@ -40,21 +25,15 @@ pub extern "C" fn bench_write(
     wanted: usize,
 ) -> usize {
     let list = list_from(shapes, numbers, count);
-    let mut good: usize = 0;
-    let mut done: usize = 0;
-    while done < times {
-        if reaches(write(width, format, list, area, buffer), wanted) {
-            good += 1;
-        }
-        done += 1;
-    }
-    good
+    (0..times)
+        .filter(|_| reaches(write(width, format, list, area, buffer), wanted))
+        .count()
 }
 
 // Reads the elements wanted so many times; how many times the number of one element, another one each time, was that of
-// `expected`.
-#[unsafe(no_mangle)]
-pub extern "C" fn bench_read(
+// `expected`. A loop, as a closure would have the list copied once more in each call: 3,748 instructions of the smallest sheet
+// in place of 3,393.
+pub fn bench_read(
     times: usize,
     width: usize,
     format: &[u8],
@@ -65,32 +44,18 @@ pub extern "C" fn bench_read(
     records: &[u8],
 ) -> usize {
     let list = list_from(shapes, expected, count);
-    let mut good: usize = 0;
-    let mut done: usize = 0;
-    while done < times {
-        let sheet = read(width, format, list, area, records);
-        let given = sheet.list;
+    let mut good = 0usize;
+    for done in 0..times {
+        let given = read(width, format, list, area, records);
         let slot = done % List::MOST;
-        let e = given.elements[slot];
-        let v = e.value;
-        if number_of(v) == expected[slot] {
+        if Slot::from(given.list.elements[slot].value).number == expected[slot] {
             good += 1;
         }
-        done += 1;
     }
     good
 }
 
 // Checks a format so many times; how many times it is accepted.
-#[unsafe(no_mangle)]
-pub extern "C" fn bench_check(times: usize, format: &[u8]) -> usize {
-    let mut good: usize = 0;
-    let mut done: usize = 0;
-    while done < times {
-        if accepted(check(format)) {
-            good += 1;
-        }
-        done += 1;
-    }
-    good
+pub fn bench_check(times: usize, format: &[u8]) -> usize {
+    (0..times).filter(|_| check(format).is_ok()).count()
 }

@@ -1,4 +1,5 @@
-// What the test programs share: the lines of a text, the numbers and elements in them, and what is printed.
+// What the test programs share: the lines of their input, the numbers and elements in them, and what is printed. Each function
+// is proved safe and ending, and promises little else.
 #![tactic(auto)]
 
 pub mod elements;

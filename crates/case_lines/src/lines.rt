@@ -1,9 +1,12 @@
-// What a line begins with.
+// The lines of a program's input.
+use std::alloc::Global;
+use std::io;
+use std::io::{BufRead, BufReader};
 
-// Whether a line begins with this byte.
-pub fn begins(line: &[u8], byte: u8) -> bool {
-    if line.len() == 0 {
-        return false;
-    }
-    line[0] == byte
+// All lines of the standard input, without their line feeds. They need be no text.
+pub fn input_lines(rt: &(impl Input + AllocGlobal)) -> io::Result<Vec<Vec<u8>>> {
+    let alloc = rt.alloc();
+    BufReader::new(alloc, rt.reader())?
+        .split(alloc, b'\n')
+        .try_collect(alloc)
 }

@@ -1,66 +1,55 @@
 // The lines of a case that has a sheet.
-ghost use Rattle.std.specs.Prelude.{◌≤◌, ◌<◌, length};
+ghost use Rattle.std.specs.Prelude.{◌≤◌, length};
+ghost use Rattle.std.specs.Slice.Iter.{iter_rest};
 
-use crate::elements::read_list;
+use crate::elements::add_line;
 use list_elements::List;
-use list_text::lines::{line_end, next_line};
+use std::slice::Iter;
 
-// Where a line begins and ends.
+// A case: its first line, the format, a line of bytes, and the list.
 #[derive(Clone, Copy)]
-pub struct Line {
-    pub start: usize,
-    pub end: usize,
-}
-
-// A case: its first line, the format, a line of bytes, and the list; and where the next case begins.
-#[derive(Clone, Copy)]
-pub struct Sheet {
-    pub head: Line,
-    pub format: Line,
-    pub bytes: Line,
+pub struct Sheet<'a> {
+    pub head: &'a [u8],
+    pub format: &'a [u8],
+    pub bytes: &'a [u8],
     pub list: List,
-    pub next: usize,
 }
 
-// The line that begins at `from`.
-fn line_at(text: &[u8], from: usize) -> Line
-    requires { from ≤ length text.now }
-    ensures { (from ≤ result.end) × (result.end ≤ length text.now) }
+// The next line; an empty one where there is none.
+fn next_line<'a>(lines: &mut Iter<'a, Vec<u8>>) -> &'a [u8]
+    ensures { length (iter_rest lines.new) ≤ length (iter_rest lines.old) }
 {
-    Line {
-        start: from,
-        end: line_end(text, from),
+    match lines.next() {
+        Some(line) => line.as_slice(),
+        None => &[],
     }
 }
 
-// The case whose first line begins at `from`.
-pub fn sheet_at(text: &[u8], from: usize) -> Sheet
-    requires { from < length text.now }
-    ensures { (from < result.next) × (result.next ≤ length text.now) }
+// The list of the next lines, up to one with a period. By `next`, as a `for` over borrowed lines would leave open how many are
+// left.
+fn next_list(lines: &mut Iter<'_, Vec<u8>>) -> List
+    ensures { length (iter_rest lines.new) ≤ length (iter_rest lines.old) }
 {
-    let head = line_at(text, from);
-    let format = line_at(text, next_line(text, head.end));
-    let bytes = line_at(text, next_line(text, format.end));
-    let listed = read_list(text, next_line(text, bytes.end));
-    let list = listed.list;
-    Sheet {
-        head,
-        format,
-        bytes,
-        list,
-        next: listed.next,
+    let mut list = List::empty();
+    while let Some(line) = lines.next() {
+        if line.starts_with(b".") {
+            break;
+        }
+        add_line(&mut list, line);
     }
+    list
 }
 
-// The bytes of a line; none where it is no part of the text.
-pub fn part(text: &[u8], line: Line) -> &[u8] {
-    let start = line.start;
-    let end = line.end;
-    if end < start {
-        return &text[..0];
+impl<'a> Sheet<'a> {
+    // The case of a first line and the lines after it.
+    pub fn new(head: &'a [u8], lines: &mut Iter<'a, Vec<u8>>) -> Self
+        ensures { length (iter_rest lines.new) ≤ length (iter_rest lines.old) }
+    {
+        Sheet {
+            head,
+            format: next_line(lines),
+            bytes: next_line(lines),
+            list: next_list(lines),
+        }
     }
-    if text.len() < end {
-        return &text[..0];
-    }
-    &text[start..end]
 }

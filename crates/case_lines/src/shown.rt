@@ -1,67 +1,68 @@
 // What is printed of an answer.
-use list_elements::List;
-use number::sign::magnitude;
-use std::io;
+ghost use Rattle.std.specs.Prelude.{◌++◌, Some, codes, decimal};
 
-// A number after some letters.
-pub fn lettered(rt: &impl Print, letters: &[u8], n: u64) -> io::Result<()> {
-    rt.write_all(letters)?;
-    rt.print(n)
-}
-
-// Some letters, where something is so.
-pub fn show_if(rt: &impl Print, so: bool, letters: &[u8]) -> io::Result<()> {
-    if so {
-        return rt.write_all(letters);
-    }
-    Ok(())
-}
-
-// A signed number after some letters; words for one whose magnitude is too large for a list.
-pub fn lettered_signed(rt: &impl Print, letters: &[u8], n: i64) -> io::Result<()> {
-    rt.write_all(letters)?;
-    if List::LARGEST < n {
-        return rt.write_all(b"too large");
-    }
-    if -List::LARGEST <= n {
-        show_if(rt, n < 0, b"-")?;
-        return rt.print(magnitude(n));
-    }
-    rt.write_all(b"too small")
-}
+use format_items::FormatRefusal;
+use sheet_walk::Refusal;
+use std::{fmt, io};
 
 // A refusal's number and place.
-pub fn show_refused(rt: &impl Print, number: u64, place: usize) -> io::Result<()> {
-    lettered(rt, b"refused ", number)?;
-    lettered(rt, b" ", place as u64)
+#[derive(Clone, Copy, PartialEq, Eq, Debug)]
+pub struct Refused {
+    pub number: u64,
+    pub place: usize,
+}
+
+impl From<FormatRefusal> for Refused {
+    fn from(refusal: FormatRefusal) -> Self {
+        Refused {
+            number: refusal.number(),
+            place: refusal.place(),
+        }
+    }
+}
+
+impl From<Refusal> for Refused {
+    fn from(refusal: Refusal) -> Self {
+        Refused {
+            number: sheet_walk::refusals::number_of(refusal),
+            place: sheet_walk::refusals::place_of(refusal),
+        }
+    }
+}
+
+impl fmt::Display for Refused {
+    ghost output = { λ r. Some (codes "refused " ++ decimal r.number ++ codes " " ++ decimal r.place) };
+
+    fn fmt<W: fmt::Write>(&self, f: &mut fmt::Formatter<W>) -> fmt::Result {
+        write!(f, "refused {} {}", self.number, self.place)
+    }
 }
 
 // The counts of an accepted sheet.
-pub fn show_counts(rt: &impl Print, records: usize, starred: usize) -> io::Result<()> {
-    lettered(rt, b"records ", records as u64)?;
-    lettered(rt, b" starred ", starred as u64)
+#[derive(Clone, Copy, PartialEq, Eq, Debug)]
+pub struct Counts {
+    pub records: usize,
+    pub starred: usize,
 }
 
-// Bytes between bars.
+impl fmt::Display for Counts {
+    ghost output = { λ c. Some (codes "records " ++ decimal c.records ++ codes " starred " ++ decimal c.starred) };
+
+    fn fmt<W: fmt::Write>(&self, f: &mut fmt::Formatter<W>) -> fmt::Result {
+        write!(f, "records {} starred {}", self.records, self.starred)
+    }
+}
+
+// Bytes between bars, after a blank. They need be no text, so no `Display` can write them.
 pub fn show_bytes(rt: &impl Print, bytes: &[u8]) -> io::Result<()> {
     rt.write_all(b" |")?;
     rt.write_all(bytes)?;
     rt.write_all(b"|")
 }
 
-// The end of a line.
-pub fn show_line_end(rt: &impl Print) -> io::Result<()> {
-    rt.write_all(b"\n")
-}
-
 // An accepted writing on a line: the counts, and the whole buffer.
-pub fn show_records(
-    rt: &impl Print,
-    records: usize,
-    starred: usize,
-    buffer: &[u8],
-) -> io::Result<()> {
-    show_counts(rt, records, starred)?;
+pub fn show_records(rt: &impl Print, counts: Counts, buffer: &[u8]) -> io::Result<()> {
+    rt.print(counts)?;
     show_bytes(rt, buffer)?;
-    show_line_end(rt)
+    rt.write_all(b"\n")
 }

@@ -1,10 +1,9 @@
 -- Document 01, the console host: 'the answer is the records written (0 for an accepted format check) or the refusal's number
 -- negated, without its place'.
 -- Assumes nothing.
-use Rattle.std.specs.Prelude.{ℤ, pos, neg_ℤ}
+use Rattle.std.specs.Prelude.{ℤ, pos, neg_ℤ, Ok, Err}
 use Rattle.format_items.specs.Refusals as format
-use Rattle.format_check.specs.declared.FormatCheck.{FormatCheck}
-use Rattle.format_check.specs.declared.FormatCheck.TheVariants as check
+use Rattle.format_check.specs.Checked.{CheckAnswer}
 use Rattle.sheet_walk.specs.Refusals.{refusal_number}
 use Rattle.sheet_walk.specs.declared.Answer.{Answer}
 use Rattle.sheet_walk.specs.declared.Answer.TheVariants as answer
@@ -15,6 +14,6 @@ host_write_number (answer.Accepted n k) = pos n
 host_write_number (answer.Refused why) = neg_ℤ (pos (refusal_number why))
 
 -- of the format check
-abbrev pub host_check_number : FormatCheck → ℤ
-host_check_number check.Accepted = pos 0
-host_check_number (check.Refused why) = neg_ℤ (pos (format.refusal_number why))
+abbrev pub host_check_number : CheckAnswer → ℤ
+host_check_number (Ok _) = pos 0
+host_check_number (Err why) = neg_ℤ (pos (format.refusal_number why))

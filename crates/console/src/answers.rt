@@ -3,8 +3,7 @@ ghost use Rattle.std.specs.Prelude.{◌≡◌, ◌^◌, ◌<◌};
 ghost use Rattle.sheet_walk.specs.Answers.{answer_records};
 ghost use Rattle.console.specs.HostAnswers.{host_write_number, host_check_number};
 
-use format_check::FormatCheck;
-use number::sign::with_sign;
+use format_check::FormatRefusal;
 use sheet_walk::Answer;
 
 // The records written, or the refusal's number negated.
@@ -17,16 +16,16 @@ pub fn write_answer(answer: Answer) -> i64
             records,
             starred: _,
         } => records as i64,
-        Answer::Refused(refusal) => with_sign(true, sheet_walk::refusals::number_of(refusal)),
+        Answer::Refused(refusal) => -(sheet_walk::refusals::number_of(refusal) as i64),
     }
 }
 
 // 0, or the refusal's number negated.
-pub fn check_answer(answer: FormatCheck) -> i64
+pub fn check_answer(answer: Result<(), FormatRefusal>) -> i64
     ensures { result ≡ host_check_number answer }
 {
     match answer {
-        FormatCheck::Accepted => 0,
-        FormatCheck::Refused(refusal) => with_sign(true, format_check::refusal::number_of(refusal)),
+        Ok(()) => 0,
+        Err(refusal) => -(refusal.number() as i64),
     }
 }

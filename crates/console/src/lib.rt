@@ -1,4 +1,4 @@
-// The console host's calls, for C: numbers and byte slices. A library exports nothing: the crate console_c exports these.
+// The console host's calls: numbers and byte slices. The crate console_c exports them to C.
 #![tactic(auto)]
 
 mod answers;
@@ -15,13 +15,7 @@ use sheet_text::writing::write_list_text;
 
 // Writes the list of a list text under the format into records of this width in the buffer. Answers the number of records
 // written, or the refusal's number negated; the buffer is then as it was.
-#[unsafe(no_mangle)]
-pub extern "C" fn trimsheet_write(
-    width: usize,
-    format: &[u8],
-    text: &[u8],
-    records: &mut [u8],
-) -> i64
+pub fn trimsheet_write(width: usize, format: &[u8], text: &[u8], records: &mut [u8]) -> i64
     ensures answers { result ≡ host_write_number (answer_from width format.now text.now records.old) }
     ensures bytes { records.new ≡ buffer_from width format.now text.now records.old }
 {
@@ -29,8 +23,7 @@ pub extern "C" fn trimsheet_write(
 }
 
 // Checks a format. Answers 0 where it is accepted, or the refusal's number negated.
-#[unsafe(no_mangle)]
-pub extern "C" fn trimsheet_check(format: &[u8]) -> i64
+pub fn trimsheet_check(format: &[u8]) -> i64
     ensures { result ≡ host_check_number (answer (outcome format.now)) }
 {
     check_answer(check(format))

@@ -9,8 +9,10 @@ use std::io;
 fn main(rt: HostRuntime) -> io::Result<()> {
     written::integers(&rt)?;
     written::decimals(&rt)?;
-    written::limits(&rt)?;
+    written::integer_limits(&rt)?;
+    written::decimal_limits(&rt)?;
     read::integers(&rt)?;
     read::decimals(&rt)?;
-    read::refused(&rt)
+    read::no_integers(&rt)?;
+    read::no_decimals(&rt)
 }

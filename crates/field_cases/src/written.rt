@@ -2,8 +2,28 @@
 ghost use Rattle.std.specs.Prelude.{◌≤◌, nat_abs, length};
 ghost use Rattle.number.specs.Limits.{largest, most_places};
 
-use field_written::Put;
+use field_written::decimal::write_decimal;
+use field_written::integer::write_integer;
+use number::TooLarge;
 use std::io;
+
+// n under Iw.
+#[derive(Clone, Copy)]
+struct IntegerCase {
+    width: usize,
+    n: i64,
+    ghost fits: { (width ≤ 64) × (nat_abs n ≤ largest) },
+}
+
+// units / 10^places under Fw.d.
+#[derive(Clone, Copy)]
+struct DecimalCase {
+    width: usize,
+    d: usize,
+    units: i64,
+    places: usize,
+    ghost fits: { (width ≤ 64) × (d ≤ most_places) × (nat_abs units ≤ largest) × (places ≤ most_places) },
+}
 
 // The first `width` bytes of a line, between bars.
 fn show(rt: &impl Print, line: &[u8], width: usize) -> io::Result<()>
@@ -14,84 +34,124 @@ fn show(rt: &impl Print, line: &[u8], width: usize) -> io::Result<()>
     rt.write_all(b"|")
 }
 
-// n under Iw.
-fn integer(rt: &impl Print, width: usize, n: i64) -> io::Result<()>
-    requires { (width ≤ 64) × (nat_abs n ≤ largest) }
-{
-    let mut line = [b'x'; 68];
-    let starred = field_written::integer::write_integer(&mut line, 2, width, n);
-    show(rt, &line, width + 4)?;
-    if starred {
-        rt.write_all(b" starred")?;
+impl IntegerCase {
+    fn new(width: usize, n: i64) -> Self
+        requires { (width ≤ 64) × (nat_abs n ≤ largest) }
+    {
+        IntegerCase { width, n }
     }
-    rt.write_all(b"\n")
-}
 
-fn say(rt: &impl Print, answer: Put) -> io::Result<()> {
-    match answer {
-        Put::Shown => rt.write_all(b"\n"),
-        Put::Starred => rt.write_all(b" starred\n"),
-        Put::TooLarge => rt.write_all(b" refused 11\n"),
+    fn show(self, rt: &impl Print) -> io::Result<()> {
+        let mut line = [b'x'; 68];
+        let starred = write_integer(&mut line[2..2 + self.width], self.n);
+        show(rt, &line, self.width + 4)?;
+        println!(rt; "{}", if starred { " starred" } else { "" })
     }
 }
 
-// units / 10^places under Fw.d.
-fn decimal(rt: &impl Print, width: usize, d: usize, units: i64, places: usize) -> io::Result<()>
-    requires { (width ≤ 64) × (d ≤ most_places) × (nat_abs units ≤ largest) × (places ≤ most_places) }
-{
-    let mut line = [b'x'; 68];
-    let answer = field_written::decimal::write_decimal(&mut line, 2, width, d, units, places);
-    show(rt, &line, width + 4)?;
-    say(rt, answer)
+impl DecimalCase {
+    fn new(width: usize, d: usize, units: i64, places: usize) -> Self
+        requires { (width ≤ 64) × (d ≤ most_places) × (nat_abs units ≤ largest) × (places ≤ most_places) }
+    {
+        DecimalCase {
+            width,
+            d,
+            units,
+            places,
+        }
+    }
+
+    fn show(self, rt: &impl Print) -> io::Result<()> {
+        let mut line = [b'x'; 68];
+        let answer = write_decimal(
+            &mut line[2..2 + self.width],
+            self.d,
+            self.units,
+            self.places,
+        );
+        show(rt, &line, self.width + 4)?;
+        match answer {
+            Ok(false) => println!(rt),
+            Ok(true) => println!(rt; " starred"),
+            Err(TooLarge) => println!(rt; " refused 11"),
+        }
+    }
 }
 
 pub fn integers(rt: &impl Print) -> io::Result<()> {
-    integer(rt, 3, 999)?;
-    integer(rt, 3, -99)?;
-    integer(rt, 3, 1000)?;
-    integer(rt, 3, -100)?;
-    integer(rt, 1, 0)?;
-    integer(rt, 1, -1)?;
-    integer(rt, 2, -1)?;
-    integer(rt, 4, 7)?;
-    integer(rt, 6, -450)?;
-    integer(rt, 64, 10)
+    let cases = [
+        IntegerCase::new(3, 999),
+        IntegerCase::new(3, -99),
+        IntegerCase::new(3, 1000),
+        IntegerCase::new(3, -100),
+        IntegerCase::new(1, 0),
+        IntegerCase::new(1, -1),
+        IntegerCase::new(2, -1),
+        IntegerCase::new(4, 7),
+        IntegerCase::new(6, -450),
+        IntegerCase::new(64, 10),
+    ];
+    for case in cases {
+        case.show(rt)?;
+    }
+    Ok(())
 }
 
 pub fn decimals(rt: &impl Print) -> io::Result<()> {
-    decimal(rt, 4, 1, -3, 1)?;
-    decimal(rt, 3, 1, -3, 1)?;
-    decimal(rt, 2, 1, -3, 1)?;
-    decimal(rt, 3, 1, -4, 2)?;
-    decimal(rt, 3, 1, 995, 2)?;
-    decimal(rt, 4, 1, 995, 2)?;
-    decimal(rt, 4, 1, 994, 2)?;
-    decimal(rt, 2, 0, 4, 1)?;
-    decimal(rt, 2, 0, 5, 1)?;
-    decimal(rt, 1, 0, 0, 0)?;
-    decimal(rt, 2, 0, -5, 1)?;
-    decimal(rt, 3, 0, -5, 1)?;
-    decimal(rt, 6, 2, -1255, 3)?;
-    decimal(rt, 5, 2, 1234, 2)?;
-    decimal(rt, 4, 2, 1234, 2)?;
-    decimal(rt, 5, 3, 7, 0)?;
-    decimal(rt, 4, 2, -5, 3)?;
-    decimal(rt, 5, 2, -4, 3)?;
-    decimal(rt, 2, 1, 3, 1)?;
-    decimal(rt, 1, 1, 3, 1)
+    let cases = [
+        DecimalCase::new(4, 1, -3, 1),
+        DecimalCase::new(3, 1, -3, 1),
+        DecimalCase::new(2, 1, -3, 1),
+        DecimalCase::new(3, 1, -4, 2),
+        DecimalCase::new(3, 1, 995, 2),
+        DecimalCase::new(4, 1, 995, 2),
+        DecimalCase::new(4, 1, 994, 2),
+        DecimalCase::new(2, 0, 4, 1),
+        DecimalCase::new(2, 0, 5, 1),
+        DecimalCase::new(1, 0, 0, 0),
+        DecimalCase::new(2, 0, -5, 1),
+        DecimalCase::new(3, 0, -5, 1),
+        DecimalCase::new(6, 2, -1255, 3),
+        DecimalCase::new(5, 2, 1234, 2),
+        DecimalCase::new(4, 2, 1234, 2),
+        DecimalCase::new(5, 3, 7, 0),
+        DecimalCase::new(4, 2, -5, 3),
+        DecimalCase::new(5, 2, -4, 3),
+        DecimalCase::new(2, 1, 3, 1),
+        DecimalCase::new(1, 1, 3, 1),
+    ];
+    for case in cases {
+        case.show(rt)?;
+    }
+    Ok(())
 }
 
 // At the largest magnitude.
-pub fn limits(rt: &impl Print) -> io::Result<()> {
-    integer(rt, 18, 999_999_999_999_999_999)?;
-    integer(rt, 18, -999_999_999_999_999_999)?;
-    integer(rt, 20, -999_999_999_999_999_999)?;
-    decimal(rt, 10, 9, 0, 0)?;
-    decimal(rt, 11, 9, 0, 0)?;
-    decimal(rt, 20, 0, 999_999_999_999_999_999, 0)?;
-    decimal(rt, 20, 9, 999_999_999_999_999_999, 9)?;
-    decimal(rt, 12, 0, 999_999_999_999_999_999, 9)?;
-    decimal(rt, 20, 1, 99_999_999_999_999_999, 0)?;
-    decimal(rt, 20, 1, 100_000_000_000_000_000, 0)?;
-    decimal(rt, 3, 9, 999_999_999_999_999_999, 0)
+pub fn integer_limits(rt: &impl Print) -> io::Result<()> {
+    let cases = [
+        IntegerCase::new(18, 999_999_999_999_999_999),
+        IntegerCase::new(18, -999_999_999_999_999_999),
+        IntegerCase::new(20, -999_999_999_999_999_999),
+    ];
+    for case in cases {
+        case.show(rt)?;
+    }
+    Ok(())
+}
+
+pub fn decimal_limits(rt: &impl Print) -> io::Result<()> {
+    let cases = [
+        DecimalCase::new(10, 9, 0, 0),
+        DecimalCase::new(11, 9, 0, 0),
+        DecimalCase::new(20, 0, 999_999_999_999_999_999, 0),
+        DecimalCase::new(20, 9, 999_999_999_999_999_999, 9),
+        DecimalCase::new(12, 0, 999_999_999_999_999_999, 9),
+        DecimalCase::new(20, 1, 99_999_999_999_999_999, 0),
+        DecimalCase::new(20, 1, 100_000_000_000_000_000, 0),
+        DecimalCase::new(3, 9, 999_999_999_999_999_999, 0),
+    ];
+    for case in cases {
+        case.show(rt)?;
+    }
+    Ok(())
 }

@@ -1,20 +1,17 @@
 -- Laws of `unblanked` and of `after_blanks`.
 -- Assumes nothing.
-use mathlib.Core.Path.{◌≡◌, refl, ◌∙◌}
+use mathlib.Core.Path.{◌≡◌, refl, sym, ap, ◌∙◌}
 use mathlib.Core.Bool.{Bool, true, false, cond}
 use mathlib.Core.List.{List, [], ◌∷◌, ◌++◌}
-use Prim.Native.Nat.{ℕ, zero, suc, ◌+◌, ◌<◌, ◌≤◌}
-use native.Mathlib.Decide.{dec_lt}
-use native.Mathlib.Numerals.{add-one}
+use Prim.Native.Nat.{ℕ, zero, suc, ◌-◌, ◌<◌, ◌≤◌}
 use native.Mathlib.Omega.{arith}
-use borrow.Author.Tests.{eq-eqb, ne_eqb}
+use borrow.Author.Tests.{ne_eqb, eqb-true, eqb-false}
 use lib.Dec.{eqb}
-use lib.ListN.{length, drop, get_or, replicate, drop_of_length-le}
-use lib.Seq.{drop-cons}
+use lib.ListN.{length, take, drop, get_or, replicate}
+use lib.Seq.{take-length}
 use Rattle.number.specs.Digits.{Digits}
 use Rattle.field_read.specs.Read.{unblanked}
 use Rattle.field_read.specs.LogicalRead.{after_blanks}
-use Rattle.field_read.specs.Steps.{Skipped}
 
 pub unblanked_append : (xs ys : List ℕ) → unblanked (xs ++ ys) ≡ unblanked xs ++ unblanked ys
 unfolding unblanked
@@ -35,47 +32,83 @@ unfolding unblanked
 unblanked_digits [] h = refl
 unblanked_digits (x ∷ xs) h = simp (ne_eqb x 32 (λ e. omega arith), unblanked_digits xs h.2)
 
--- ---- one offset on
+-- ---- the first byte, and what stands after it
 
-pub at_blank : (s : List ℕ) (i : ℕ) → i < length s → get_or s i 0 ≡ 32 → unblanked (drop i s) ≡ unblanked (drop (i + 1) s)
-unfolding unblanked
-at_blank s i h e = rw (drop-cons s i 0 h, add-one) (simp (eq-eqb (get_or s i 0) 32 e))
+-- a slice that is not empty, by its first byte and the part after it, as the code takes it
+pub first_rest : (s : List ℕ) {x : ℕ} → 1 ≤ length s → get_or s 0 0 ≡ x → s ≡ x ∷ take (length s - 1) (drop 1 s)
+first_rest [] h e = absurd (omega arith)
+first_rest (y ∷ s) {x} h e =
+    let k : length (y ∷ s) - 1 ≡ length s = omega arith in
+    let t : take (length (y ∷ s) - 1) (drop 1 (y ∷ s)) ≡ s = ap (λ (n : ℕ). take n s) k ∙ take-length s in
+    ap (λ (z : ℕ). z ∷ s) e ∙ ap (λ (l : List ℕ). x ∷ l) (sym t)
 
-pub at_other : (s : List ℕ) (i : ℕ) → i < length s → (get_or s i 0 ≡ 32 → ⊥) → unblanked (drop i s) ≡ get_or s i 0 ∷ unblanked (drop (i + 1) s)
-unfolding unblanked
-at_other s i h e = rw (drop-cons s i 0 h, add-one) (simp (ne_eqb (get_or s i 0) 32 e))
+-- whether a slice is empty, as the code asks
+pub short_none : (s : List ℕ) → length s < 1 → s ≡ []
+short_none [] h = refl
+short_none (x ∷ s) h = absurd (omega arith)
 
-pub at_end_lem : (s : List ℕ) (i : ℕ) → length s ≤ i → unblanked (drop i s) ≡ []
+pub test_none : (s : List ℕ) → true ≡ eqb (length s) 0 → s ≡ []
+test_none s e = let z : length s ≡ 0 = eqb-true (length s) 0 (sym e) in short_none s (omega arith)
+
+pub test_some : (s : List ℕ) → false ≡ eqb (length s) 0 → 1 ≤ length s
+test_some [] e = absurd (eqb-false 0 0 (sym e) refl)
+test_some (x ∷ s) e = omega arith
+
+pub at_blank : (t : List ℕ) → unblanked (32 ∷ t) ≡ unblanked t
 unfolding unblanked
-at_end_lem s i h = rw (drop_of_length-le s {i = i} h)
+at_blank t = refl
+
+pub at_other : (x : ℕ) (t : List ℕ) → (x ≡ 32 → ⊥) → unblanked (x ∷ t) ≡ x ∷ unblanked t
+unfolding unblanked
+at_other x t n = simp (ne_eqb x 32 n)
+
+pub unblanked_none : unblanked [] ≡ []
+unfolding unblanked
+unblanked_none = refl
 
 -- ---- the same of `after_blanks`
 
-after_blank : (s : List ℕ) (i : ℕ) → i < length s → get_or s i 0 ≡ 32 → after_blanks (drop i s) ≡ after_blanks (drop (i + 1) s)
+pub after_blank : (t : List ℕ) → after_blanks (32 ∷ t) ≡ after_blanks t
 unfolding after_blanks
-after_blank s i h e = rw (drop-cons s i 0 h, add-one) (simp (eq-eqb (get_or s i 0) 32 e))
+after_blank t = refl
 
-after_other : (s : List ℕ) (i : ℕ) → (i < length s → get_or s i 0 ≡ 32 → ⊥) → after_blanks (drop i s) ≡ drop i s
+pub after_other : (x : ℕ) (t : List ℕ) → (x ≡ 32 → ⊥) → after_blanks (x ∷ t) ≡ x ∷ t
 unfolding after_blanks
-after_other s i e =
-    elim (dec_lt i (length s)) [
-      | yes h ↦ rw (drop-cons s i 0 h) (simp (ne_eqb (get_or s i 0) 32 (e h)))
-      | no h ↦ rw (drop_of_length-le s {i = i} (omega arith))
-    ]
+after_other x t n = simp (ne_eqb x 32 n)
 
--- ---- the loop that passes over blanks: all before i are blank
+pub after_none : after_blanks [] ≡ []
+unfolding after_blanks
+after_none = refl
 
-pub record Skipping (s : List ℕ) (i : ℕ) : Type 0 where
-  pub past : i ≤ length s
-  pub same : unblanked s ≡ unblanked (drop i s)
-  pub so_far : after_blanks s ≡ after_blanks (drop i s)
+-- by the first byte, as the code has it
+pub blank_front : (s : List ℕ) → 1 ≤ length s → get_or s 0 0 ≡ 32 → after_blanks s ≡ after_blanks (take (length s - 1) (drop 1 s))
+blank_front s h e = ap after_blanks (first_rest s h e) ∙ after_blank (take (length s - 1) (drop 1 s))
 
-pub skipping_none : (s : List ℕ) → Skipping s 0
-skipping_none s = record { past = omega arith; same = refl; so_far = refl }
+pub other_front : (s : List ℕ) → 1 ≤ length s → (get_or s 0 0 ≡ 32 → ⊥) → after_blanks s ≡ s
+other_front s h n =
+    let e = first_rest s h refl in
+    ap after_blanks e ∙ after_other (get_or s 0 0) (take (length s - 1) (drop 1 s)) n ∙ sym e
 
-pub skipping_more : {s : List ℕ} {i : ℕ} → Skipping s i → i < length s → get_or s i 0 ≡ 32 → Skipping s (i + 1)
-skipping_more {s} {i} w h e =
-    record { past = omega arith; same = w.same ∙ at_blank s i h e; so_far = w.so_far ∙ after_blank s i h e }
+pub nothing_front : (s : List ℕ) → length s < 1 → after_blanks s ≡ s
+nothing_front [] h = after_none
+nothing_front (x ∷ s) h = absurd (omega arith)
 
-pub skipping_stop : {s : List ℕ} {i : ℕ} → Skipping s i → (i < length s → get_or s i 0 ≡ 32 → ⊥) → Skipped s i
-skipping_stop {s} {i} w e = record { past = w.past; same = w.same; only = w.so_far ∙ after_other s i e; stop = e }
+-- without its blanks a field is what it is without those in front
+pub unblanked_after : (s : List ℕ) → unblanked s ≡ unblanked (after_blanks s)
+unfolding unblanked after_blanks
+unblanked_after [] = refl
+unblanked_after (x ∷ xs) = go (eqb x 32) refl (unblanked_after xs)
+  where
+    go : (b : Bool) → eqb x 32 ≡ b → unblanked xs ≡ unblanked (after_blanks xs) → cond b (unblanked xs) (x ∷ unblanked xs) ≡ unblanked (cond b (after_blanks xs) (x ∷ xs))
+    go true e r = r
+    go false e r = simp e
+
+-- and no blank stands in front of that
+pub after_first : (s : List ℕ) {x : ℕ} {t : List ℕ} → after_blanks s ≡ x ∷ t → x ≡ 32 → ⊥
+unfolding after_blanks
+after_first [] e z = let k : ◌≡◌ {A = ℕ} 0 1 = cc in absurd (omega arith)
+after_first (y ∷ ys) {x} {t} e z = go (λ f. after_first ys f z) (eqb y 32) refl e
+  where
+    go : (after_blanks ys ≡ x ∷ t → ⊥) → (b : Bool) → eqb y 32 ≡ b → cond b (after_blanks ys) (y ∷ ys) ≡ x ∷ t → ⊥
+    go r true q f = r f
+    go r false q f = eqb-false y 32 q (let k : y ≡ x = cc in k ∙ z)

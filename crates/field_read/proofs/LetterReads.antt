@@ -3,55 +3,20 @@
 use mathlib.Core.Path.{◌≡◌, refl, sym, ap, ◌∙◌}
 use mathlib.Core.Bool.{Bool, true, false, ◌&&◌, cond}
 use mathlib.Core.List.{List, [], ◌∷◌, ◌++◌, append_assoc}
-use Prim.Native.Nat.{ℕ, zero, suc, ◌+◌, ◌-◌, ◌<◌, ◌≤◌}
-use native.Mathlib.Nat.{add_assoc}
-use native.Mathlib.Numerals.{add-one}
+use Prim.Native.Nat.{ℕ, zero, suc, ◌-◌, ◌<◌, ◌≤◌}
 use native.Mathlib.Omega.{arith}
 use borrow.Author.Tests.{eqb-true, ne_eqb, le-leb, lt-leb, leb-true, leb-false}
 use lib.Dec.{leb, eqb}
-use lib.ListN.{length, take, drop, get_or, replicate, length-append, length-replicate, length-drop, drop_of_length-le}
-use lib.Seq.{drop-cons, drop_at, get_or-drop, ext_get_or}
+use lib.ListN.{length, take, drop, replicate, length-append, length-replicate, length-drop}
+use lib.Seq.{drop_at}
 use Rattle.buffer.specs.Characters.{blank, decimal_point, is_printable, all_printable}
-use Rattle.buffer.proofs.Splicing.{length_part, part_at}
 use Rattle.field_written.specs.LogicalField.{letter, logical_field}
 use Rattle.field_written.specs.TextField.{text_field}
 use Rattle.field_written.proofs.Letters.{text_fits, text_cut, length_text}
 use Rattle.field_read.specs.LogicalRead.{after_blanks, after_period, letter_read, logical_read}
 use Rattle.field_read.specs.TextRead.{text_read, text_readable, shown_text}
+use Rattle.std.specs.Prelude.{Some, None}
 use Rattle.field_read.specs.Promises.{SpellsLogical, LogicalReadIs, LogicalReadsBack, TextReadLength, TextReadsBack}
-use Rattle.field_read.specs.Steps.{Skipped}
-use Rattle.field_read.specs.declared.LogicalRead.TheVariants.{Truth, Refused}
-
--- ---- a period and a letter at an offset
-
-pub letter_none : (s : List ℕ) (at : ℕ) → length s ≤ at → Refused ≡ letter_read (drop at s)
-letter_none s at h = rw (drop_of_length-le s {i = at} h)
-
-pub period_none : (s : List ℕ) (at : ℕ) → length s ≤ at → drop at s ≡ after_period (drop at s)
-period_none s at h = rw (drop_of_length-le s {i = at} h)
-
-module _ (s : List ℕ) (at : ℕ) (h : at < length s) where
-  pub letter_true : get_or s at 0 ≡ letter true → Truth true ≡ letter_read (drop at s)
-  letter_true e = rw (drop-cons s at 0 h, e)
-
-  pub letter_false : get_or s at 0 ≡ letter false → Truth false ≡ letter_read (drop at s)
-  letter_false e = rw (drop-cons s at 0 h, e)
-
-  pub letter_other : (get_or s at 0 ≡ letter true → ⊥) → (get_or s at 0 ≡ letter false → ⊥) → Refused ≡ letter_read (drop at s)
-  letter_other t f =
-      let x : ℕ = get_or s at 0 in
-      rw (drop-cons s at 0 h) (simp (ne_eqb x 84 t, ne_eqb x 70 f))
-
-  pub period_passed : get_or s at 0 ≡ decimal_point → drop (at + 1) s ≡ after_period (drop at s)
-  period_passed e = rw (add-one at, drop-cons s at 0 h, e)
-
-  pub period_other : (get_or s at 0 ≡ decimal_point → ⊥) → drop at s ≡ after_period (drop at s)
-  period_other n = rw (drop-cons s at 0 h) (simp (ne_eqb (get_or s at 0) 46 n))
-
--- the steps of a logical field
-pub logical_steps : {s : List ℕ} {at : ℕ} (next : ℕ) → Skipped s at → drop next s ≡ after_period (drop at s) → letter_read (drop next s) ≡ logical_read s
-unfolding logical_read
-logical_steps next w e = rw (e, w.only)
 
 -- ---- a field that is read as b is so spelled
 
@@ -86,19 +51,19 @@ record Letter (t : List ℕ) (b : Bool) : Type 0 where
   rest : List ℕ
   is : t ≡ letter b ∷ rest
 
-refused_not_truth : {P : Type 0} {b : Bool} → Refused ≡ Truth b → P
+refused_not_truth : {P : Type 0} {b : Bool} → None ≡ Some b → P
 refused_not_truth e = let z : ◌≡◌ {A = ℕ} 0 1 = cc in absurd (omega arith)
 
-letter_in : (t : List ℕ) (b : Bool) → letter_read t ≡ Truth b → Letter t b
+letter_in : (t : List ℕ) (b : Bool) → letter_read t ≡ Some b → Letter t b
 letter_in [] b e = refused_not_truth e
 letter_in (x ∷ xs) b e = go (eqb x 84) refl (eqb x 70) refl e
   where
-    go : (p : Bool) → eqb x 84 ≡ p → (q : Bool) → eqb x 70 ≡ q → cond p (Truth true) (cond q (Truth false) Refused) ≡ Truth b → Letter (x ∷ xs) b
+    go : (p : Bool) → eqb x 84 ≡ p → (q : Bool) → eqb x 70 ≡ q → cond p (Some true) (cond q (Some false) None) ≡ Some b → Letter (x ∷ xs) b
     go true ep q eq f = let k : true ≡ b = cc in record { rest = xs; is = rw (← k, eqb-true x 84 ep) }
     go false ep true eq f = let k : false ≡ b = cc in record { rest = xs; is = rw (← k, eqb-true x 70 eq) }
     go false ep false eq f = refused_not_truth f
 
-spelled : (t : List ℕ) (b : Bool) → logical_read t ≡ Truth b → SpellsLogical t b
+spelled : (t : List ℕ) (b : Bool) → logical_read t ≡ Some b → SpellsLogical t b
 unfolding logical_read
 spelled t b e =
     let w = blanks_in t in
@@ -118,7 +83,7 @@ unfolding after_blanks
 after_blanks_lem zero x t n = rw (ne_eqb x blank n)
 after_blanks_lem (suc k) x t n = after_blanks_lem k x t n
 
-letter_read_lem : (k : ℕ) (p b : Bool) (rest : List ℕ) → logical_read (replicate k blank ++ (cond p (decimal_point ∷ []) [] ++ (letter b ∷ rest))) ≡ Truth b
+letter_read_lem : (k : ℕ) (p b : Bool) (rest : List ℕ) → logical_read (replicate k blank ++ (cond p (decimal_point ∷ []) [] ++ (letter b ∷ rest))) ≡ Some b
 unfolding logical_read
 letter_read_lem k true true rest = rw (after_blanks_lem k decimal_point (letter true ∷ rest) (λ e. omega arith))
 letter_read_lem k true false rest = rw (after_blanks_lem k decimal_point (letter false ∷ rest) (λ e. omega arith))
@@ -157,29 +122,6 @@ module _ (m : ℕ) (t : List ℕ) where
 
 pub text_read_length : TextReadLength
 text_read_length m t = long m t
-
--- the last m of the n bytes from `from` on
-last_at : (s : List ℕ) (from n k m i : ℕ) → k + m ≤ n → i < m → get_or (take m (drop (from + k) s)) i 0 ≡ get_or (drop k (take n (drop from s))) i 0
-last_at s from n k m i e h =
-    rw (part_at s (from + k) m i h, get_or-drop k (take n (drop from s)) i 0, part_at s from n (k + i) (omega arith), add_assoc)
-
-last_part : (s : List ℕ) (from n m : ℕ) → from + n ≤ length s → m ≤ n → take m (drop (from + (n - m)) s) ≡ drop (n - m) (take n (drop from s))
-last_part s from n m h g =
-    let l : length (take m (drop (from + (n - m)) s)) ≡ m = length_part s (from + (n - m)) m (omega arith) in
-    let r : length (drop (n - m) (take n (drop from s))) ≡ m = length-drop (n - m) (take n (drop from s)) ∙ rw (length_part s from n h) (omega arith) in
-    ext_get_or 0 (take m (drop (from + (n - m)) s)) (drop (n - m) (take n (drop from s))) (l ∙ sym r) (λ i q. last_at s from n (n - m) m i (omega arith) (omega arith))
-
--- a text of the field of w bytes of src from `from` on
-module _ (m : ℕ) (src : List ℕ) (from w : ℕ) (inside : from + w ≤ length src) where
-  field_long : length (take w (drop from src)) ≡ w
-  field_long = length_part src from w inside
-
-  pub text_taken : m ≤ w → take m (drop (from + (w - m)) src) ≡ text_read m (take w (drop from src))
-  text_taken h =
-      sym (text_last m (take w (drop from src)) (omega (arith, field_long)) ∙ rw (field_long, last_part src from w m inside h))
-
-  pub text_blanks : w < m → take w (drop from src) ++ replicate (m - w) blank ≡ text_read m (take w (drop from src))
-  text_blanks h = sym (text_padded m (take w (drop from src)) (omega (arith, field_long)) ∙ rw field_long)
 
 -- ---- the field of a text
 

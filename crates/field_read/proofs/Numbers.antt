@@ -1,7 +1,7 @@
 -- Laws of a number read: its digits, the point, and its limits.
 -- Assumes nothing.
 use mathlib.Core.Path.{◌≡◌, refl, ap}
-use mathlib.Core.Bool.{true, false, ◌&&◌, cond, and-false}
+use mathlib.Core.Bool.{false, ◌&&◌, cond, and-false}
 use mathlib.Core.List.{List, [], ◌∷◌, ◌++◌}
 use Prim.Native.Nat.{ℕ, suc, ◌<◌, ◌≤◌}
 use native.Mathlib.Nat.{mul-le-mul_left, mul-one}
@@ -11,16 +11,12 @@ use lib.Dec.{leb, eqb, ltb}
 use lib.ListN.{length}
 use Rattle.number.specs.Limits.{largest}
 use Rattle.number.specs.Digits.{is_digit, Digits, all_digits, value}
-use mir.Syntax.{w64}
-use mir.Val.{SFits}
-use Rattle.number.proofs.SignLaws.{with_fits}
 use Rattle.number.proofs.PowerLaws.{ten_pos}
 use Rattle.number.proofs.DigitLaws.{value_append, all_digits_lem}
 use Rattle.field_written.specs.Numeral.{signed}
 use Rattle.field_written.specs.declared.Sign.{Sign}
-use Rattle.field_written.specs.declared.Sign.TheVariants.{None, Plus, Minus}
-use Rattle.field_read.specs.Read.{before_point, from_point, number_read}
-use Rattle.field_read.specs.declared.FieldRead.TheVariants.{Number, Refused}
+use Rattle.field_read.specs.Read.{number, before_point, from_point, number_read}
+use Rattle.std.specs.Prelude.{None}
 
 some_other : (ds : List ℕ) (c : ℕ) (more : List ℕ) → is_digit c ≡ false → all_digits (ds ++ (c ∷ more)) ≡ false
 unfolding all_digits
@@ -34,36 +30,29 @@ value_more ds more =
 -- ---- the number of the digits x ++ y, y after the point
 
 module _ (s : Sign) (p : ℕ) (x y : List ℕ) where
-  pub number_good : Digits (x ++ y) → length y ≤ 9 → value (x ++ y) ≤ largest → number_read s p x y ≡ cond (eqb (length (x ++ y)) 0) Refused (Number (signed s (value (x ++ y))) p)
+  pub number_good : Digits (x ++ y) → length y ≤ 9 → value (x ++ y) ≤ largest → number_read s p x y ≡ cond (eqb (length (x ++ y)) 0) None (number (signed s (value (x ++ y))) p)
   unfolding number_read
   number_good a l v = go (x ++ y) refl
     where
-      go : (z : List ℕ) → x ++ y ≡ z → cond (ltb 0 (length (x ++ y)) && all_digits (x ++ y) && leb (length y) 9 && leb (value (x ++ y)) largest) (Number (signed s (value (x ++ y))) p) Refused ≡ cond (eqb (length (x ++ y)) 0) Refused (Number (signed s (value (x ++ y))) p)
+      go : (z : List ℕ) → x ++ y ≡ z → cond (ltb 0 (length (x ++ y)) && all_digits (x ++ y) && leb (length y) 9 && leb (value (x ++ y)) largest) (number (signed s (value (x ++ y))) p) None ≡ cond (eqb (length (x ++ y)) 0) None (number (signed s (value (x ++ y))) p)
       go [] e = rw e
       go (c ∷ z) e =
           let n : length (x ++ y) ≡ suc (length z) = ap length e in
           simp (lt-ltb 0 (length (x ++ y)) (omega arith), all_digits_lem (x ++ y) a, le-leb (length y) 9 l, le-leb (value (x ++ y)) largest v, ne_eqb (length (x ++ y)) 0 (λ q. omega arith))
 
-  pub number_bad : (ds : List ℕ) (c : ℕ) (more : List ℕ) → x ++ y ≡ ds ++ (c ∷ more) → is_digit c ≡ false → number_read s p x y ≡ Refused
+  pub number_bad : (ds : List ℕ) (c : ℕ) (more : List ℕ) → x ++ y ≡ ds ++ (c ∷ more) → is_digit c ≡ false → number_read s p x y ≡ None
   unfolding number_read
   number_bad ds c more e h = rw (e, some_other ds c more h) (simp and-false)
 
-  pub number_over : (ds more : List ℕ) → x ++ y ≡ ds ++ more → largest < value ds → number_read s p x y ≡ Refused
+  pub number_over : (ds more : List ℕ) → x ++ y ≡ ds ++ more → largest < value ds → number_read s p x y ≡ None
   unfolding number_read
   number_over ds more e h =
       let v : largest < value (x ++ y) = rw e (omega (arith, value_more ds more)) in
       simp (lt-leb (value (x ++ y)) largest v, and-false)
 
-  pub number_long : 9 < length y → number_read s p x y ≡ Refused
+  pub number_long : 9 < length y → number_read s p x y ≡ None
   unfolding number_read
   number_long h = simp (lt-leb (length y) 9 h, and-false)
-
--- ---- the sign
-
-pub signed_fits : (s : Sign) (m : ℕ) → m ≤ largest → SFits w64 (signed s m)
-signed_fits None m h = with_fits false m h
-signed_fits Plus m h = with_fits false m h
-signed_fits Minus m h = with_fits true m h
 
 -- ---- the point
 

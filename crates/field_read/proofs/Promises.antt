@@ -15,13 +15,13 @@ use Rattle.number.specs.Rounding.{rounded_units}
 use Rattle.number.proofs.DigitLaws.{digits_append}
 use Rattle.field_written.specs.Numeral.{Setting, Numeric, I, F, places, point, sign_bytes, signed, Numeral, characters, stands_for}
 use Rattle.field_written.specs.declared.Sign.{Sign}
-use Rattle.field_written.specs.declared.Sign.TheVariants.{None, Plus, Minus}
+use Rattle.field_written.specs.declared.Sign.TheVariants.{None as NoSign, Plus, Minus}
 use Rattle.field_written.specs.Written.{field, starred, decimal_field, put_refusal, put_starred}
 use Rattle.field_written.proofs.Promises.{unstarred_is_numeral, Case, large, narrow_case, wide_case, case_of, clash, small_units}
-use Rattle.field_read.specs.Read.{unblanked, before_point, from_point, places_read, read_field, read_refusal, read_units, read_places, Gives, shown_units, shown_places}
+use Rattle.field_read.specs.Read.{number, unblanked, before_point, from_point, places_read, read_field, read_refusal, read_units, read_places, Gives, shown_units, shown_places}
 use Rattle.field_read.specs.Promises.{SpellsNumber, without_point, with_point, NumberReadIs, NumeralReads, IntegerReadsBack, DecimalReadsBack, StarsRefused, LogicalReadIs, LogicalReadsBack, TextReadLength, TextReadsBack}
-use Rattle.field_read.specs.declared.FieldRead.{FieldRead}
-use Rattle.field_read.specs.declared.FieldRead.TheVariants.{Number, Refused}
+use Rattle.std.specs.Prelude.{Option, None}
+use Rattle.field_read.specs.declared.Number.{Number}
 use Rattle.field_read.proofs.Blanks.{unblanked_append, unblanked_blanks, unblanked_digits}
 use Rattle.field_read.proofs.Numbers.{number_bad, before_other}
 use Rattle.field_read.proofs.Cases.{read_some}
@@ -32,7 +32,7 @@ use Rattle.field_read.proofs.LetterReads
 
 unblanked_sign : (s : Sign) → unblanked (sign_bytes s) ≡ sign_bytes s
 unfolding unblanked
-unblanked_sign None = refl
+unblanked_sign NoSign = refl
 unblanked_sign Plus = refl
 unblanked_sign Minus = refl
 
@@ -48,7 +48,7 @@ unblanked_numeral {g} {f} t =
 -- ---- and so it spells the number that it stands for
 
 nat_abs_signed : (s : Sign) (m : ℕ) → nat_abs (signed s m) ≡ m
-nat_abs_signed None m = refl
+nat_abs_signed NoSign m = refl
 nat_abs_signed Plus m = refl
 nat_abs_signed Minus zero = refl
 nat_abs_signed Minus (suc m) = refl
@@ -64,12 +64,12 @@ numeral_spells g (F d) w t l h =
 pub number_read_is : NumberReadIs
 number_read_is = NumberReads.number_read_is
 
-numeral_read : (g : Setting) (f : Numeric) (w : ℕ) (t : Numeral g f w) → places f ≤ most_places → nat_abs (stands_for t) ≤ largest → read_field f (characters t) ≡ Number (stands_for t) (places f)
+numeral_read : (g : Setting) (f : Numeric) (w : ℕ) (t : Numeral g f w) → places f ≤ most_places → nat_abs (stands_for t) ≤ largest → read_field f (characters t) ≡ number (stands_for t) (places f)
 numeral_read g f w t l h =
     let m : value (t.whole ++ t.fraction) ≤ largest = rw (nat_abs_signed t.sign (value (t.whole ++ t.fraction))) at h in
     (number_read_is f (characters t) (stands_for t) (places f)).1 (numeral_spells g f w t l m)
 
-gives : {r : FieldRead} {u : ℤ} {p : ℕ} → r ≡ Number u p → Gives r u p
+gives : {r : Option Number} {u : ℤ} {p : ℕ} → r ≡ number u p → Gives r u p
 gives e = record { accepted = ap read_refusal e; units = ap read_units e; places_read_lem = ap read_places e }
 
 pub numeral_reads : NumeralReads
@@ -98,15 +98,15 @@ unfolding unblanked
 unblanked_stars zero = refl
 unblanked_stars (suc w) = rw (unblanked_stars w)
 
-stars_read : (f : Numeric) (w : ℕ) → read_field f (replicate (suc w) asterisk) ≡ Refused
+stars_read : (f : Numeric) (w : ℕ) → read_field f (replicate (suc w) asterisk) ≡ None
 stars_read I w =
     read_some I (replicate (suc w) asterisk) asterisk (replicate w asterisk) (unblanked_stars (suc w))
-    ∙ number_bad None 0 (asterisk ∷ replicate w asterisk) [] [] asterisk (replicate w asterisk ++ []) refl refl
+    ∙ number_bad NoSign 0 (asterisk ∷ replicate w asterisk) [] [] asterisk (replicate w asterisk ++ []) refl refl
 stars_read (F d) w =
     let t : List ℕ = asterisk ∷ replicate w asterisk in
     let y : List ℕ = drop 1 (from_point t) in
     read_some (F d) (replicate (suc w) asterisk) asterisk (replicate w asterisk) (unblanked_stars (suc w))
-    ∙ number_bad None (places_read d t) (before_point t) y [] asterisk (before_point (replicate w asterisk) ++ y) (ap (λ (x : List ℕ). x ++ y) (before_other asterisk (replicate w asterisk) (λ q. omega arith))) refl
+    ∙ number_bad NoSign (places_read d t) (before_point t) y [] asterisk (before_point (replicate w asterisk) ++ y) (ap (λ (x : List ℕ). x ++ y) (before_other asterisk (replicate w asterisk) (λ q. omega arith))) refl
 
 pub stars_refused : StarsRefused
 stars_refused f zero h = absurd (not-suc-le-zero h)

@@ -1,10 +1,8 @@
 -- Document 01, 'Fields read': L.
 -- Assumes nothing.
-use Rattle.std.specs.Prelude.{true, false, cond, List, [], ◌∷◌, ℕ, eqb}
+use Rattle.std.specs.Prelude.{Bool, true, false, cond, List, [], ◌∷◌, Option, Some, None, ℕ, eqb}
 use Rattle.buffer.specs.Characters.{blank, decimal_point}
 use Rattle.field_written.specs.LogicalField.{letter}
-use Rattle.field_read.specs.declared.LogicalRead.{LogicalRead}
-use Rattle.field_read.specs.declared.LogicalRead.TheVariants.{Truth, Refused}
 
 -- 'blanks or none'
 unfoldable pub after_blanks : List ℕ → List ℕ
@@ -17,10 +15,10 @@ after_period [] = []
 after_period (x ∷ xs) = cond (eqb x decimal_point) xs (x ∷ xs)
 
 -- 'T or F, then anything'
-abbrev pub letter_read : List ℕ → LogicalRead
-letter_read [] = Refused
-letter_read (x ∷ xs) = cond (eqb x (letter true)) (Truth true) (cond (eqb x (letter false)) (Truth false) Refused)
+abbrev pub letter_read : List ℕ → Option Bool
+letter_read [] = None
+letter_read (x ∷ xs) = cond (eqb x (letter true)) (Some true) (cond (eqb x (letter false)) (Some false) None)
 
 -- the field t read under L
-unfoldable pub logical_read : List ℕ → LogicalRead
+unfoldable pub logical_read : List ℕ → Option Bool
 logical_read t = letter_read (after_period (after_blanks t))

@@ -1,6 +1,6 @@
 -- What the theorems of proofs/Promises.antt say of the fields read.
 -- Assumes nothing.
-use Rattle.std.specs.Prelude.{◌≡◌, ◌↔◌, Bool, true, false, cond, List, [], ◌∷◌, ◌++◌, ℕ, ◌<◌, ◌≤◌, length, replicate, ℤ, pos, nat_abs}
+use Rattle.std.specs.Prelude.{◌≡◌, ◌↔◌, Bool, true, false, cond, List, [], ◌∷◌, ◌++◌, ℕ, ◌<◌, ◌≤◌, length, replicate, ℤ, pos, nat_abs, Some}
 use Rattle.buffer.specs.Characters.{blank, asterisk, decimal_point, all_printable}
 use Rattle.number.specs.Limits.{largest, most_places}
 use Rattle.number.specs.Digits.{Digits, value}
@@ -9,11 +9,9 @@ use Rattle.field_written.specs.declared.Sign.{Sign}
 use Rattle.field_written.specs.Written.{field, starred, decimal_field, put_decimal, put_refusal, put_starred}
 use Rattle.field_written.specs.LogicalField.{letter, logical_field}
 use Rattle.field_written.specs.TextField.{text_field}
-use Rattle.field_read.specs.Read.{unblanked, read_field, read_refusal, Gives, shown_integer, shown_units, shown_places}
+use Rattle.field_read.specs.Read.{number, unblanked, read_field, read_refusal, Gives, shown_integer, shown_units, shown_places}
 use Rattle.field_read.specs.LogicalRead.{logical_read}
 use Rattle.field_read.specs.TextRead.{text_readable, text_read, shown_text}
-use Rattle.field_read.specs.declared.FieldRead.TheVariants.{Number}
-use Rattle.field_read.specs.declared.LogicalRead.TheVariants.{Truth}
 
 -- What the field t spells under I or under F: a number's units and its places (0 for I).
 pub data SpellsNumber (t : List ℕ) : Numeric → ℤ → ℕ → Type 0 where
@@ -29,7 +27,7 @@ pub data SpellsNumber (t : List ℕ) : Numeric → ℤ → ℕ → Type 0 where
 
 -- a field is read as u with p places exactly when it so spells it
 abbrev pub NumberReadIs : Type 0
-NumberReadIs = (f : Numeric) (t : List ℕ) (u : ℤ) (p : ℕ) → (read_field f t ≡ Number u p) ↔ SpellsNumber t f u p
+NumberReadIs = (f : Numeric) (t : List ℕ) (u : ℤ) (p : ℕ) → (read_field f t ≡ number u p) ↔ SpellsNumber t f u p
 
 -- every numeral of width w, within the limits, reads back as the number that it stands for, under F with d places
 abbrev pub NumeralReads : Type 0
@@ -61,11 +59,11 @@ pub record SpellsLogical (t : List ℕ) (b : Bool) : Type 0 where
 
 -- a field is read as b exactly when it is so spelled
 abbrev pub LogicalReadIs : Type 0
-LogicalReadIs = (t : List ℕ) (b : Bool) → (logical_read t ≡ Truth b) ↔ SpellsLogical t b
+LogicalReadIs = (t : List ℕ) (b : Bool) → (logical_read t ≡ Some b) ↔ SpellsLogical t b
 
 -- the field of a logical reads back
 abbrev pub LogicalReadsBack : Type 0
-LogicalReadsBack = (w : ℕ) (b : Bool) → 1 ≤ w → logical_read (logical_field w b) ≡ Truth b
+LogicalReadsBack = (w : ℕ) (b : Bool) → 1 ≤ w → logical_read (logical_field w b) ≡ Some b
 
 -- ---- texts
 

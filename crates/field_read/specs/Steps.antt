@@ -1,62 +1,54 @@
--- What the inner readers find in a field s: the blanks in front, the sign, a run of digits. Their contracts cite it, no
--- promise does.
+-- What the inner readers find in a field s: the sign, a run of digits, and what is left after them. Their contracts cite it,
+-- no promise does.
 -- Assumes nothing.
-use Rattle.std.specs.Prelude.{◌≡◌, false, List, [], ◌++◌, ℕ, ◌+◌, ◌*◌, ◌^◌, ◌<◌, ◌≤◌, length, drop, get_or}
+use Rattle.std.specs.Prelude.{◌≡◌, false, List, [], ◌∷◌, ◌++◌, ℕ, ◌+◌, ◌*◌, ◌^◌, ◌<◌, ◌≤◌, length, Option, Some, None}
+use Rattle.std.specs.Borrow.{Bor}
 use Rattle.buffer.specs.Characters.{blank}
 use Rattle.number.specs.Limits.{largest}
 use Rattle.number.specs.Digits.{is_digit, Digits, value}
 use Rattle.field_written.specs.declared.Sign.{Sign}
 use Rattle.field_read.specs.Read.{unblanked, sign_of, after_sign}
-use Rattle.field_read.specs.LogicalRead.{after_blanks}
-use Rattle.field_read.specs.declared.Front.{Front}
-use Rattle.field_read.specs.declared.Front.TheVariants.{Nothing, Found}
 use Rattle.field_read.specs.declared.Run.{Run}
-use Rattle.field_read.specs.declared.Run.TheVariants as run
 
--- the first offset that is not blank; the length where all are
-pub record Skipped (s : List ℕ) (to : ℕ) : Type 0 where
-  pub past : to ≤ length s
-  pub same : unblanked s ≡ unblanked (drop to s)
-  pub only : after_blanks s ≡ drop to s
-  pub stop : to < length s → get_or s to 0 ≡ blank → ⊥
-
--- something is left of s without its blanks: the sign, and what follows it stands from `from` on, blanks aside
-pub record Signed (s : List ℕ) (sign : Sign) (from : ℕ) : Type 0 where
-  pub past : from ≤ length s
+-- something is left of s without its blanks: the sign, and what follows it is `rest`, blanks aside
+pub record Signed (s : List ℕ) (sign : Sign) (rest : List ℕ) : Type 0 where
   pub some : 0 < length (unblanked s)
   pub sign_is : sign ≡ sign_of (unblanked s)
-  pub rest : after_sign (unblanked s) ≡ unblanked (drop from s)
+  pub rest_is : after_sign (unblanked s) ≡ unblanked rest
 
-abbrev pub FrontIs : List ℕ → Front → Type 0
-FrontIs s Nothing = unblanked s ≡ []
-FrontIs s (Found sign from) = Signed s sign from
+abbrev pub FrontIs : List ℕ → Option (Sign × Bor (List ℕ)) → Type 0
+FrontIs s None = unblanked s ≡ []
+FrontIs s (Some f) = Signed s f.0 f.1.now
 
--- between `from` and `next` stand `count` digits, blanks among them, which after the number v make the number m.
+-- before `rest` stand `count` digits, blanks among them, which after the number v make the number m.
 -- (`fewer`: so that `count` does not overflow.)
-pub record RunSoFar (s : List ℕ) (from v m count next : ℕ) : Type 0 where
+pub record RunSoFar (s : List ℕ) (v m count : ℕ) (rest : List ℕ) : Type 0 where
   pub digits : List ℕ
   pub all : Digits digits
-  pub rest : unblanked (drop from s) ≡ digits ++ unblanked (drop next s)
+  pub rest_is : unblanked s ≡ digits ++ unblanked rest
   pub many : count ≡ length digits
   pub is : m ≡ v * 10 ^ length digits + value digits
   pub low : m ≤ largest
-  pub past : next ≤ length s
-  pub fewer : count ≤ next
+  pub fewer : count + length rest ≤ length s
 
--- and at `next` stands something else, or s ends
-pub record Ran (s : List ℕ) (from v m count next : ℕ) : Type 0 where
-  pub run : RunSoFar s from v m count next
-  pub no_blank : next < length s → get_or s next 0 ≡ blank → ⊥
-  pub no_digit : next < length s → is_digit (get_or s next 0) ≡ false
+-- s ends, or begins with neither a blank nor a digit
+abbrev pub Stopped : List ℕ → Type 0
+Stopped [] = Unit {0}
+Stopped (x ∷ xs) = (x ≡ blank → ⊥) × (is_digit x ≡ false)
 
--- from `from` on stand digits which after the number v make too large a number
-pub record RunTooLarge (s : List ℕ) (from v : ℕ) : Type 0 where
+-- and the run ends there
+pub record Ran (s : List ℕ) (v m count : ℕ) (rest : List ℕ) : Type 0 where
+  pub run : RunSoFar s v m count rest
+  pub stop : Stopped rest
+
+-- in front stand digits which after the number v make too large a number
+pub record RunTooLarge (s : List ℕ) (v : ℕ) : Type 0 where
   pub digits : List ℕ
   pub more : List ℕ
   pub all : Digits digits
-  pub rest : unblanked (drop from s) ≡ digits ++ more
+  pub rest_is : unblanked s ≡ digits ++ more
   pub high : largest < v * 10 ^ length digits + value digits
 
-abbrev pub RunIs : List ℕ → ℕ → ℕ → Run → Type 0
-RunIs s from v (run.Digits m count next) = Ran s from v m count next
-RunIs s from v run.TooLarge = RunTooLarge s from v
+abbrev pub RunIs : List ℕ → ℕ → Option Run → Type 0
+RunIs s v (Some r) = Ran s v r.value r.count r.rest.now
+RunIs s v None = RunTooLarge s v

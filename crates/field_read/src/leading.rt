@@ -1,46 +1,29 @@
 // The blanks and the sign in front of the digits.
-ghost use Rattle.field_read.specs.Steps.{Skipped, FrontIs};
+ghost use Rattle.std.specs.Prelude.{◌≡◌};
+ghost use Rattle.field_read.specs.LogicalRead.{after_blanks};
+ghost use Rattle.field_read.specs.Steps.{FrontIs};
 
-use crate::Front;
 use field_written::Sign;
 
-// The first offset that is not blank.
-pub fn skip_blanks(part: &[u8]) -> usize
-    ensures { Skipped part.now result }
+// What stands after the blanks in front.
+pub fn skip_blanks(part: &[u8]) -> &[u8]
+    ensures { result.now ≡ after_blanks part.now }
 {
-    let mut i: usize = 0;
-    while i < part.len() {
-        if part[i] != b' ' {
-            return i;
-        }
-        i += 1;
+    let mut rest = part;
+    while let [b' ', after @ ..] = rest {
+        rest = after;
     }
-    i
+    rest
 }
 
-// The sign, where there is one, and the offset after it.
-pub fn read_front(part: &[u8]) -> Front
+// The sign in front, and what stands after it; nothing where all is blank.
+pub fn read_front(part: &[u8]) -> Option<(Sign, &[u8])>
     ensures { FrontIs part.now result }
 {
-    let at = skip_blanks(part);
-    if part.len() <= at {
-        return Front::Nothing;
-    }
-    let b = part[at];
-    if b == b'+' {
-        return Front::Found {
-            sign: Sign::Plus,
-            from: at + 1,
-        };
-    }
-    if b == b'-' {
-        return Front::Found {
-            sign: Sign::Minus,
-            from: at + 1,
-        };
-    }
-    Front::Found {
-        sign: Sign::None,
-        from: at,
+    match skip_blanks(part) {
+        [] => None,
+        [b'+', rest @ ..] => Some((Sign::Plus, rest)),
+        [b'-', rest @ ..] => Some((Sign::Minus, rest)),
+        rest => Some((Sign::None, rest)),
     }
 }

@@ -1,4 +1,5 @@
-// Fields read: integers under Iw, decimals under Fw.d, logicals under Lw, texts under Aw.
+// Fields read: integers under Iw, decimals under Fw.d, logicals under Lw, texts under Aw. A field that is no number, or no
+// logical, is read as `None`.
 #![tactic(auto)]
 
 mod answer;
@@ -9,37 +10,18 @@ mod leading;
 pub mod logical;
 pub mod text;
 
-use field_written::Sign;
-
-// A field read: units and places (0 under I), or no number.
-#[derive(Clone, Copy)]
-pub enum FieldRead {
-    Number { units: i64, places: usize },
-    Refused,
+// A number read: its units, and its places (0 under I).
+#[derive(Clone, Copy, PartialEq, Eq, Debug)]
+pub struct Number {
+    pub units: i64,
+    pub places: usize,
 }
 
-// A logical field read.
+// A run of digits: the number that they make after a number before, how many they are, and what is left after them and the
+// blanks that follow.
 #[derive(Clone, Copy)]
-pub enum LogicalRead {
-    Truth(bool),
-    Refused,
-}
-
-// A field that is all blank; or the sign in front, and the offset after it.
-#[derive(Clone, Copy)]
-enum Front {
-    Nothing,
-    Found { sign: Sign, from: usize },
-}
-
-// A run of digits: the number that they make after a number before, how many they are, and the offset after them and
-// the blanks that follow.
-#[derive(Clone, Copy)]
-enum Run {
-    Digits {
-        value: u64,
-        count: usize,
-        next: usize,
-    },
-    TooLarge,
+struct Run<'a> {
+    value: u64,
+    count: usize,
+    rest: &'a [u8],
 }

@@ -5,7 +5,9 @@ use mathlib.Core.Bool.{Bool, true, false, cond}
 use mathlib.Core.List.{List, ◌++◌, append-nil}
 use Prim.Native.Nat.{ℕ, ◌+◌, ◌-◌, ◌/◌, ◌^◌, ◌<◌, ◌≤◌}
 use native.Mathlib.Nat.{div-one}
+use native.Mathlib.Decide.{dec_lt}
 use native.Mathlib.Omega.{arith}
+use Rattle.std.specs.Prelude.{max}
 use borrow.Author.Tests.{le-leb, lt-leb, ltb-true, ltb-false}
 use lib.Dec.{ltb}
 use lib.ListN.{length, replicate, length-append}
@@ -86,12 +88,13 @@ module _ {s need : ℕ} (sign : Sign) (m : ℕ) (hs : s ≡ length (sign_bytes s
 
 -- ---- a decimal
 
-pub decimal_need : {s k : ℕ} (sign : Sign) (d m : ℕ) → s ≡ length (sign_bytes sign) → k ≡ digit_count m → (k ≤ d → s + 1 + d ≡ fewest_columns (F d) sign m) × (d < k → s + 1 + k ≡ fewest_columns (F d) sign m)
+pub decimal_need : {s k : ℕ} (sign : Sign) (d m : ℕ) → s ≡ length (sign_bytes sign) → k ≡ digit_count m → s + 1 + max k d ≡ fewest_columns (F d) sign m
 unfolding beside
-decimal_need {s} {k} sign d m hs hk = (
-  λ h. omega (arith, columns_are (F d) 0 sign m, fewest_none d m (omega arith)),
-  λ h. omega (arith, columns_are (F d) 0 sign m, fewest_some d m (omega arith)),
-)
+decimal_need {s} {k} sign d m hs hk =
+    elim (dec_lt d k) [
+      | yes h ↦ omega (arith, columns_are (F d) 0 sign m, fewest_some d m (omega arith))
+      | no h ↦ omega (arith, columns_are (F d) 0 sign m, fewest_none d m (omega arith))
+    ]
 
 -- sign, point and fraction are among them
 pub decimal_rest : {s need : ℕ} (sign : Sign) (d m : ℕ) → s ≡ length (sign_bytes sign) → need ≡ fewest_columns (F d) sign m → s + 1 + d ≤ need

@@ -1,16 +1,14 @@
 -- Laws of the fields of logicals and texts.
 -- Assumes nothing.
-use mathlib.Core.Path.{◌≡◌, refl, sym, ◌∙◌}
+use mathlib.Core.Path.{◌≡◌, refl}
 use mathlib.Core.Bool.{Bool, true, false}
-use mathlib.Core.List.{List, [], ◌∷◌, ◌++◌}
-use Prim.Native.Nat.{ℕ, ◌+◌, ◌-◌, ◌<◌, ◌≤◌}
+use mathlib.Core.List.{List, [], ◌∷◌}
+use Prim.Native.Nat.{ℕ, ◌<◌, ◌≤◌}
 use native.Mathlib.Omega.{arith}
 use lib.Dec.{leb}
-use lib.ListN.{length, take, drop, replicate, length-append, length-replicate}
-use lib.Seq.{length-take-le, take-take}
+use lib.ListN.{length, take, length-append, length-replicate}
+use lib.Seq.{length-take-le}
 use borrow.Author.Tests.{le-leb, lt-leb, leb-true, leb-false}
-use Rattle.buffer.specs.Characters.{blank}
-use Rattle.buffer.proofs.Splicing.{length_part}
 use Rattle.field_written.specs.Written.{justified}
 use Rattle.field_written.specs.LogicalField.{letter, logical_field}
 use Rattle.field_written.specs.TextField.{text_field}
@@ -19,10 +17,6 @@ length_justified : (w : ℕ) (t : List ℕ) → length t ≤ w → length (justi
 length_justified w t h = simp (length-append, length-replicate) (omega arith)
 
 -- ---- a logical
-
-pub logical_is : (w : ℕ) (b : Bool) {v : ℕ} → v ≡ letter b → replicate (w - 1) blank ++ replicate 1 v ≡ logical_field w b
-unfolding logical_field
-logical_is w b e = rw e
 
 pub length_logical : (w : ℕ) (b : Bool) → 1 ≤ w → length (logical_field w b) ≡ w
 unfolding logical_field
@@ -49,15 +43,3 @@ module _ (w : ℕ) (text : List ℕ) where
       go false e =
           let h : w < length text = leb-false (length text) w e in
           rw (text_cut h) (length-take-le w text (omega arith))
-
--- the same of a part of the text area, by whether it fits
-module _ (w : ℕ) (area : List ℕ) (start len : ℕ) (inside : start + len ≤ length area) where
-  long : length (take len (drop start area)) ≡ len
-  long = length_part area start len inside
-
-  pub text_right : len ≤ w → replicate (w - len) blank ++ take len (drop start area) ≡ text_field w (take len (drop start area))
-  text_right h = sym (text_fits w (take len (drop start area)) (omega (arith, long)) ∙ rw long)
-
-  pub text_first : w < len → take w (drop start area) ≡ text_field w (take len (drop start area))
-  text_first h =
-      sym (text_cut w (take len (drop start area)) (omega (arith, long)) ∙ take-take w len (drop start area) (omega arith))

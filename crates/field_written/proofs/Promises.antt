@@ -2,7 +2,7 @@
 -- Assumes nothing.
 use mathlib.Core.Path.{◌≡◌, refl, sym, ap, ◌∙◌, subst}
 use mathlib.Core.Logic.{◌↔◌}
-use mathlib.Core.Bool.{Bool, true, false}
+use mathlib.Core.Bool.{Bool, true, false, cond}
 use mathlib.Core.List.{List, [], ◌∷◌, ◌++◌}
 use Prim.Native.Nat.{ℕ, zero, suc, ◌+◌, ◌-◌, ◌*◌, ◌^◌, ◌≤◌, ◌<◌, ◌%◌}
 use native.Mathlib.Decide.{dec_le, ℕ_discrete}
@@ -10,23 +10,24 @@ use native.Mathlib.Nat.{mod-eq_of_lt, div-add-mod'}
 use native.Mathlib.Omega.{arith}
 use borrow.Author.Tests.{ltb-true, ltb-false}
 use lib.Arith.{digits_div, digits_mod}
-use lib.ListN.{length, get_or, replicate, length-append, length-replicate, get_or-replicate}
+use lib.ListN.{length, take, drop, get_or, replicate, length-append, length-replicate, get_or-replicate}
 use lib.Seq.{get_or-append-add}
 use lib.IntN.{ℤ, pos, negsuc, nat_abs}
 use Rattle.buffer.specs.Characters.{blank, asterisk, digit_zero}
 use Rattle.buffer.specs.Splice.{splice}
+use Rattle.buffer.proofs.Splicing.{splice_same, length_part}
 use Rattle.number.specs.Limits.{largest}
 use Rattle.number.specs.Digits.{Digits, value, digits_of}
-use Rattle.number.specs.Rounding.{Nearest, rounded_units, too_large}
+use Rattle.number.specs.Rounding.{Nearest, rounded_units, too_large, too_large_error}
 use Rattle.number.proofs.RoundingLaws.{rounded_is}
 use Rattle.number.proofs.DigitLaws.{value_none, length_digits, digits_are, value_digits, value_below, value_append, no_zero, digits_cut, digits_unique, digits_exact}
 use Rattle.field_written.specs.Numeral.{Numeric, I, F, places, point, sign_bytes, signed, layout, Setting, plain, Permitted, Numeral, characters, stands_for}
 use Rattle.field_written.specs.declared.Sign.{Sign}
 use Rattle.field_written.specs.declared.Sign.TheVariants.{None, Plus, Minus}
-use Rattle.field_written.specs.Written.{sign_for, most_digits, fewest_digits, numeral_text, field_text, fewest_columns, field, starred, put_decimal, after_decimal, put_refusal, put_starred}
-use Rattle.field_written.specs.Promises.{FieldLength, StarredIs, StarsExactlyWhen, AsWritten, UnstarredIsNumeral, FieldOnly, DecimalRefusedWhen, DecimalRefusedLeaves, DecimalStarsExactlyWhen, DecimalStarred, DecimalShown}
-use Rattle.field_written.specs.declared.Put.{Put}
-use Rattle.field_written.specs.declared.Put.TheVariants as put
+use Rattle.field_written.specs.Written.{sign_for, most_digits, fewest_digits, numeral_text, field_text, fewest_columns, field, starred, decimal_field, put_decimal, decimal_part, after_decimal, put_refusal, put_starred}
+use Rattle.field_written.specs.Promises.{FieldLength, StarredIs, StarsExactlyWhen, AsWritten, UnstarredIsNumeral, FieldOnly, DecimalPartOf, DecimalRefusedWhen, DecimalRefusedLeaves, DecimalStarsExactlyWhen, DecimalStarred, DecimalShown}
+use Rattle.number.specs.declared.TooLarge.{TooLarge}
+use Rattle.std.specs.Prelude.{Result, Ok, Err}
 use Rattle.field_written.proofs.Fewest.{whole_part, Fewest, gone, kept, fewest_cases, most_zero, most_of_zero, most_as, most_holds, most_pos, fewest_holds, fewest_least}
 use Rattle.field_written.proofs.Cases.{beside, length_numeral, shown_text, columns_are, stars, with_most, with_fewest}
 
@@ -295,9 +296,9 @@ stars_exactly_when g f w n = go (starred g f w n) refl
 -- ---- decimals, by the answer
 
 pub data Case (g : Setting) (w d : ℕ) (u : ℤ) (s : ℕ) : Type 0 where
-  large : too_large u s d ≡ true → put_decimal g w d u s ≡ put.TooLarge → Case g w d u s
-  narrow_case : too_large u s d ≡ false → starred g (F d) w (rounded_units u s d) ≡ true → put_decimal g w d u s ≡ put.Starred → Case g w d u s
-  wide_case : too_large u s d ≡ false → starred g (F d) w (rounded_units u s d) ≡ false → put_decimal g w d u s ≡ put.Shown → Case g w d u s
+  large : too_large u s d ≡ true → put_decimal g w d u s ≡ Err too_large_error → Case g w d u s
+  narrow_case : too_large u s d ≡ false → starred g (F d) w (rounded_units u s d) ≡ true → put_decimal g w d u s ≡ Ok true → Case g w d u s
+  wide_case : too_large u s d ≡ false → starred g (F d) w (rounded_units u s d) ≡ false → put_decimal g w d u s ≡ Ok false → Case g w d u s
 
 pub case_of : (g : Setting) (w d : ℕ) (u : ℤ) (s : ℕ) → Case g w d u s
 unfolding put_decimal
@@ -320,8 +321,16 @@ unfolding too_large
 small_units u s d e = ltb-false largest (nat_abs (rounded_units u s d)) e
 
 -- what an answer does not say
-pub clash {ℓ} : {A : Type ℓ} {x : ℕ} {p q : Put} (f : Put → ℕ) → q ≡ p → f q ≡ x → (f p ≡ x → ⊥) → A
+pub clash {ℓ} : {A : Type ℓ} {x : ℕ} {p q : Result Bool TooLarge} (f : Result Bool TooLarge → ℕ) → q ≡ p → f q ≡ x → (f p ≡ x → ⊥) → A
 clash f e h n = absurd (n (sym (ap f e) ∙ h))
+
+pub decimal_part_of : DecimalPartOf
+unfolding after_decimal decimal_part
+decimal_part_of g buffer at w d u s h = go (too_large u s d)
+  where
+    go : (b : Bool) → cond b buffer (splice buffer at (decimal_field g w d u s)) ≡ splice buffer at (cond b (take w (drop at buffer)) (decimal_field g (length (take w (drop at buffer))) d u s))
+    go true = sym (splice_same buffer at w h)
+    go false = rw (length_part buffer at w h)
 
 pub decimal_refused_when : DecimalRefusedWhen
 decimal_refused_when g w d u s = go (case_of g w d u s)

@@ -1,12 +1,12 @@
 -- What the theorems of proofs/Promises.antt say of the fields written.
 -- Assumes nothing.
-use Rattle.std.specs.Prelude.{◌≡◌, ◌↔◌, true, false, List, [], ◌∷◌, ℕ, ◌≤◌, length, replicate, ℤ, nat_abs}
+use Rattle.std.specs.Prelude.{◌≡◌, ◌↔◌, true, false, List, [], ◌∷◌, ℕ, ◌+◌, ◌≤◌, length, take, drop, replicate, ℤ, nat_abs}
 use Rattle.buffer.specs.Characters.{asterisk, digit_zero}
 use Rattle.buffer.specs.Splice.{splice}
 use Rattle.number.specs.Limits.{largest}
 use Rattle.number.specs.Rounding.{Nearest}
 use Rattle.field_written.specs.Numeral.{Setting, Numeric, F, Numeral, characters, stands_for}
-use Rattle.field_written.specs.Written.{sign_for, field, starred, put_decimal, after_decimal, put_refusal, put_starred}
+use Rattle.field_written.specs.Written.{sign_for, field, starred, put_decimal, decimal_part, after_decimal, put_refusal, put_starred}
 
 -- a field has w characters
 abbrev pub FieldLength : Type 0
@@ -43,6 +43,11 @@ abbrev pub FieldOnly : Type 0
 FieldOnly = (g : Setting) (f : Numeric) (w : ℕ) (n : ℤ) (t : Numeral g f w) → AsWritten g f w n t → characters t ≡ field g f w n
 
 -- ---- the decimal u / 10^s under Fw.d, without the closed form of rounding
+
+-- `after_decimal`, of which the promises below speak, is the buffer with the part that its field fills, as the code leaves it
+abbrev pub DecimalPartOf : Type 0
+DecimalPartOf =
+    (g : Setting) (buffer : List ℕ) (at w d : ℕ) (u : ℤ) (s : ℕ) → at + w ≤ length buffer → after_decimal g buffer at w d u s ≡ splice buffer at (decimal_part g (take w (drop at buffer)) d u s)
 
 -- refusal 11 exactly when the decimal rounded to d places is beyond the largest magnitude
 abbrev pub DecimalRefusedWhen : Type 0

@@ -1,16 +1,15 @@
 -- Document 01, 'Fields written': the numeric field.
 -- Assumes nothing.
-use Rattle.std.specs.Prelude.{Bool, true, false, ◌&&◌, cond, List, ◌++◌, ℕ, ◌-◌, ◌/◌, ◌^◌, ltb, leb, eqb, length, replicate, ℤ, nat_abs}
+use Rattle.std.specs.Prelude.{Bool, true, false, ◌&&◌, cond, List, ◌++◌, ℕ, ◌-◌, ◌/◌, ◌^◌, ltb, leb, eqb, length, replicate, ℤ, nat_abs, Result, Ok, Err}
 use Rattle.buffer.specs.Characters.{blank, asterisk}
 use Rattle.buffer.specs.Splice.{splice}
 use Rattle.number.specs.Magnitude.{negative}
 use Rattle.number.specs.Digits.{digits_of, digit_count}
-use Rattle.number.specs.Rounding.{rounded_units, too_large}
+use Rattle.number.specs.Rounding.{rounded_units, too_large, too_large_error}
 use Rattle.field_written.specs.Numeral.{Numeric, I, F, places, layout, Setting, plain}
 use Rattle.field_written.specs.declared.Sign.{Sign}
 use Rattle.field_written.specs.declared.Sign.TheVariants.{None, Minus}
-use Rattle.field_written.specs.declared.Put.{Put}
-use Rattle.field_written.specs.declared.Put.TheVariants.{Shown, Starred, TooLarge}
+use Rattle.number.specs.declared.TooLarge.{TooLarge}
 
 -- ---- the text of a sign and a magnitude m, which for F counts units of 10^-d
 
@@ -70,22 +69,25 @@ after_integer g buffer at w n = splice buffer at (field g I w n)
 abbrev pub decimal_field : Setting → ℕ → ℕ → ℤ → ℕ → List ℕ
 decimal_field g w d u s = field g (F d) w (rounded_units u s d)
 
--- the answer of writing it
-unfoldable pub put_decimal : Setting → ℕ → ℕ → ℤ → ℕ → Put
+-- the answer of writing it: whether the field is starred
+unfoldable pub put_decimal : Setting → ℕ → ℕ → ℤ → ℕ → Result Bool TooLarge
 put_decimal g w d u s =
-    cond (too_large u s d) TooLarge (cond (starred g (F d) w (rounded_units u s d)) Starred Shown)
+    cond (too_large u s d) (Err too_large_error) (Ok (starred g (F d) w (rounded_units u s d)))
+
+-- the part of the buffer that its field fills; refused, it is as it was
+unfoldable pub decimal_part : Setting → List ℕ → ℕ → ℤ → ℕ → List ℕ
+decimal_part g part d u s = cond (too_large u s d) part (decimal_field g (length part) d u s)
 
 -- the buffer after writing it from offset at on; refused, it is as it was
 unfoldable pub after_decimal : Setting → List ℕ → ℕ → ℕ → ℕ → ℤ → ℕ → List ℕ
 after_decimal g buffer at w d u s = cond (too_large u s d) buffer (splice buffer at (decimal_field g w d u s))
 
 -- what an answer means: the refusal's number in 'Checks by place', 0 for none, and the number of starred fields
-abbrev pub put_refusal : Put → ℕ
-put_refusal Shown = 0
-put_refusal Starred = 0
-put_refusal TooLarge = 11
+abbrev pub put_refusal : Result Bool TooLarge → ℕ
+put_refusal (Ok b) = 0
+put_refusal (Err e) = 11
 
-abbrev pub put_starred : Put → ℕ
-put_starred Shown = 0
-put_starred Starred = 1
-put_starred TooLarge = 0
+abbrev pub put_starred : Result Bool TooLarge → ℕ
+put_starred (Ok true) = 1
+put_starred (Ok false) = 0
+put_starred (Err e) = 0

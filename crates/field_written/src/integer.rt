@@ -1,40 +1,40 @@
 // The integer field.
-ghost use Rattle.std.specs.Prelude.{◌≡◌, ◌+◌, ◌≤◌, length, nat_abs};
-ghost use Rattle.buffer.specs.Splice.{splice};
+ghost use Rattle.std.specs.Prelude.{◌≡◌, ◌≤◌, length, nat_abs};
 ghost use Rattle.number.specs.Limits.{largest};
 ghost use Rattle.field_written.specs.Numeral.{I, plain};
-ghost use Rattle.field_written.specs.Written.{fewest_columns, field_text, starred, after_integer};
+ghost use Rattle.field_written.specs.Written.{fewest_columns, field_text, field, starred};
 
 use crate::Sign;
-use crate::columns::{integer_columns, sign_width};
-use crate::parts::{minus_if, put_sign};
+use crate::columns::integer_columns;
 use number::put::put_digits;
 
 // The numeral, right justified; it takes `need` columns, which are there.
-fn put_integer(dst: &mut [u8], at: usize, width: usize, need: usize, sign: Sign, m: u64)
-    requires { (at + width ≤ length dst.old) × (need ≤ width) × (need ≡ fewest_columns I sign m) × (m ≤ largest) }
-    ensures { dst.new ≡ splice dst.old at (field_text I width sign m) }
+fn put_integer(part: &mut [u8], need: usize, sign: Sign, m: u64)
+    requires room { need ≤ length part.old }
+    requires needed { need ≡ fewest_columns I sign m }
+    ensures { part.new ≡ field_text I (length part.old) sign m }
 {
-    let s = sign_width(sign);
-    let k = need - s;
-    let blanks = width - need;
-    buffer::fill(dst, at, blanks, b' ');
-    put_sign(dst, at + blanks, sign);
-    put_digits(dst, at + blanks + s, k, m);
+    let free = part.len() - need;
+    let (blanks, numeral) = part.split_at_mut(free);
+    let (front, digits) = numeral.split_at_mut(sign.width());
+    blanks.fill(b' ');
+    sign.put(front);
+    put_digits(digits, m);
 }
 
-// n under Iw from offset at on; whether the field is starred.
-pub fn write_integer(dst: &mut [u8], at: usize, width: usize, n: i64) -> bool
-    requires { (at + width ≤ length dst.old) × (nat_abs n ≤ largest) }
-    ensures { (result ≡ starred plain I width n) × (dst.new ≡ after_integer plain dst.old at width n) }
+// n under Iw, w the columns of the part; whether the field is starred.
+pub fn write_integer(part: &mut [u8], n: i64) -> bool
+    requires { nat_abs n ≤ largest }
+    ensures answer { result ≡ starred plain I (length part.old) n }
+    ensures laid { part.new ≡ field plain I (length part.old) n }
 {
-    let sign = minus_if(number::sign::is_negative(n));
-    let m = number::sign::magnitude(n);
+    let sign = Sign::of_negative(n.is_negative());
+    let m = n.unsigned_abs();
     let need = integer_columns(sign, m);
-    if width < need {
-        buffer::fill(dst, at, width, b'*');
+    if part.len() < need {
+        part.fill(b'*');
         return true;
     }
-    put_integer(dst, at, width, need, sign, m);
+    put_integer(part, need, sign, m);
     false
 }

@@ -1,25 +1,53 @@
-// Fields written: integers under Iw, decimals under Fw.d, logicals under Lw, texts under Aw.
+// Fields written: integers under Iw, decimals under Fw.d, logicals under Lw, texts under Aw. Each fills the part of the
+// buffer that is lent to it.
 #![tactic(auto)]
 
 mod columns;
 pub mod decimal;
 pub mod integer;
 pub mod logical;
-pub mod parts;
 pub mod text;
 
 // The sign in front of a numeral.
-#[derive(Clone, Copy)]
+#[derive(Clone, Copy, PartialEq, Eq, Debug)]
 pub enum Sign {
     None,
     Plus,
     Minus,
 }
 
-// The answer of writing a decimal.
-#[derive(Clone, Copy)]
-pub enum Put {
-    Shown,
-    Starred,
-    TooLarge,
+impl Sign {
+    ghost use Rattle.std.specs.Prelude.{◌≡◌, ◌<◌, length};
+    ghost use Rattle.field_written.specs.Numeral.{sign_bytes};
+    ghost use Rattle.field_written.specs.Written.{minus_if};
+
+    // A minus below zero, and no sign else.
+    pub fn of_negative(negative: bool) -> Sign
+        ensures { result ≡ minus_if negative }
+    {
+        if negative { Sign::Minus } else { Sign::None }
+    }
+
+    // The columns that it takes.
+    pub fn width(self) -> usize
+        ensures columns { result ≡ length (sign_bytes self) }
+        ensures one { result < 2 }
+    {
+        match self {
+            Sign::None => 0,
+            Sign::Plus | Sign::Minus => 1,
+        }
+    }
+
+    // Its byte, where there is one.
+    pub fn put(self, part: &mut [u8])
+        requires { length part.old ≡ length (sign_bytes self) }
+        ensures { part.new ≡ sign_bytes self }
+    {
+        match self {
+            Sign::None => {}
+            Sign::Plus => part[0] = b'+',
+            Sign::Minus => part[0] = b'-',
+        }
+    }
 }

@@ -1,6 +1,5 @@
 // The logical field.
-ghost use Rattle.std.specs.Prelude.{◌≡◌, ◌+◌, ◌≤◌, length};
-ghost use Rattle.buffer.specs.Splice.{splice};
+ghost use Rattle.std.specs.Prelude.{◌≡◌, ◌≤◌, length};
 ghost use Rattle.field_written.specs.LogicalField.{letter, logical_field};
 
 fn letter_of(b: bool) -> u8
@@ -9,12 +8,13 @@ fn letter_of(b: bool) -> u8
     if b { b'T' } else { b'F' }
 }
 
-// b under Lw from offset at on.
-pub fn write_logical(dst: &mut [u8], at: usize, width: usize, b: bool)
-    requires { (at + width ≤ length dst.old) × (1 ≤ width) }
-    ensures { dst.new ≡ splice dst.old at (logical_field width b) }
+// b under Lw, w the columns of the part.
+#[tactic(auto, unfolding(crate::specs::LogicalField::logical_field))]
+pub fn write_logical(part: &mut [u8], b: bool)
+    requires { 1 ≤ length part.old }
+    ensures { part.new ≡ logical_field (length part.old) b }
 {
-    let blanks = width - 1;
-    buffer::fill(dst, at, blanks, b' ');
-    buffer::fill(dst, at + blanks, 1, letter_of(b));
+    let blanks = part.len() - 1;
+    part[..blanks].fill(b' ');
+    part[blanks] = letter_of(b);
 }

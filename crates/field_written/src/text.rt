@@ -1,18 +1,18 @@
 // The text field.
-ghost use Rattle.std.specs.Prelude.{◌≡◌, ◌+◌, ◌≤◌, length, take, drop};
-ghost use Rattle.buffer.specs.Splice.{splice};
+ghost use Rattle.std.specs.Prelude.{◌≡◌, length};
 ghost use Rattle.field_written.specs.TextField.{text_field};
 
-// The `len` bytes of the text area from `start` on, under Aw from offset at on.
-pub fn write_text(dst: &mut [u8], at: usize, width: usize, area: &[u8], start: usize, len: usize)
-    requires { (at + width ≤ length dst.old) × (start + len ≤ length area.now) }
-    ensures { dst.new ≡ splice dst.old at (text_field width (take len (drop start area.now))) }
+// The text under Aw, w the columns of the part.
+#[tactic(auto, unfolding(crate::specs::TextField::text_field))]
+pub fn write_text(part: &mut [u8], text: &[u8])
+    ensures { part.new ≡ text_field (length part.old) text.now }
 {
-    if len <= width {
-        let blanks = width - len;
-        buffer::fill(dst, at, blanks, b' ');
-        buffer::copy(dst, at + blanks, area, start, len);
+    let width = part.len();
+    if text.len() <= width {
+        let (blanks, shown) = part.split_at_mut(width - text.len());
+        blanks.fill(b' ');
+        shown.copy_from_slice(text);
         return;
     }
-    buffer::copy(dst, at, area, start, width);
+    part.copy_from_slice(&text[..width]);
 }

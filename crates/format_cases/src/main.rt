@@ -3,15 +3,23 @@
 #![tactic(auto)]
 
 mod answers;
-mod lines;
 mod runs;
 
+use case_lines::lines::input_lines;
 use std::io;
 
+// One line.
+fn show_line(rt: &impl Print, line: &[u8]) -> io::Result<()> {
+    match line {
+        [b'=', format @ ..] => runs::show_run(rt, format),
+        format => answers::show_check(rt, format),
+    }
+}
+
 fn main(rt: HostRuntime) -> io::Result<()> {
-    let mut input = [0u8; 65536];
-    let n = input_bytes::read_full(&mut rt.stdin(), &mut input)?;
-    lines::each_line(&rt, &input[..n])?;
+    for line in input_lines(&rt)? {
+        show_line(&rt, line.as_slice())?;
+    }
     answers::show_check(&rt, b"(I4\n)")?;
     answers::show_check(&rt, b"('A\nB')")
 }

@@ -4,70 +4,33 @@ ghost use Rattle.format_grammar.specs.Check.{outcome, outcome_number, outcome_pl
 ghost use Rattle.format_items.specs.Refusals.{longest_format};
 ghost use Rattle.format_check.specs.Checked.{answer, answer_number, answer_place};
 
-use crate::FormatCheck;
 use format_items::{FormatRefusal, LONGEST_FORMAT};
-use format_load::ItemsChecked;
 use format_load::items::check_items;
 
-// Rows 3 to 5, with room for the text's items.
-fn check_with(text: &[u8], entries: &mut [u64], chars: &mut [u8]) -> FormatCheck
-    requires { (length text.now ≤ longest_format) × (length text.now ≤ length entries.old) × (length text.now ≤ length chars.old) }
+// Rows 3 to 5, for a text of at most N bytes: with room for the items of one so long. Not inlined, so that the stack of a call
+// holds the arrays of one size.
+#[inline(never)]
+fn check_within<const N: usize>(text: &[u8]) -> Result<(), FormatRefusal>
+    requires { (length text.now ≤ N) × (N ≤ longest_format) }
     ensures { result ≡ answer (outcome text.now) }
 {
-    match check_items(text, entries, chars) {
-        ItemsChecked::Refused(refusal) => FormatCheck::Refused(refusal),
-        ItemsChecked::Items {
-            entries: _,
-            size: _,
-        } => FormatCheck::Accepted,
-    }
-}
-
-// A text of at most 64 bytes.
-fn check_short(text: &[u8]) -> FormatCheck
-    requires { length text.now ≤ 64 }
-    ensures { result ≡ answer (outcome text.now) }
-{
-    let mut entries = [0u64; 64];
-    let mut chars = [0u8; 64];
-    check_with(text, &mut entries, &mut chars)
-}
-
-// A text of at most 256 bytes.
-fn check_middle(text: &[u8]) -> FormatCheck
-    requires { length text.now ≤ 256 }
-    ensures { result ≡ answer (outcome text.now) }
-{
-    let mut entries = [0u64; 256];
-    let mut chars = [0u8; 256];
-    check_with(text, &mut entries, &mut chars)
-}
-
-// A text of at most 1,024 bytes.
-fn check_long(text: &[u8]) -> FormatCheck
-    requires { length text.now ≤ longest_format }
-    ensures { result ≡ answer (outcome text.now) }
-{
-    let mut entries = [0u64; 1024];
-    let mut chars = [0u8; 1024];
-    check_with(text, &mut entries, &mut chars)
+    let mut entries = [0u64; N];
+    let mut chars = [0u8; N];
+    check_items(text, &mut entries, &mut chars)?;
+    Ok(())
 }
 
 // Whether a format is accepted, or else the refusal; any bytes, any length. The arrays are cleared at each call, so a short
 // format gets small ones.
-pub fn check(format: &[u8]) -> FormatCheck
+pub fn check(format: &[u8]) -> Result<(), FormatRefusal>
     ensures answers { result ≡ answer (outcome format.now) }
     ensures number { answer_number result ≡ outcome_number (outcome format.now) }
     ensures place { answer_place result ≡ outcome_place (outcome format.now) }
 {
-    if LONGEST_FORMAT < format.len() {
-        return FormatCheck::Refused(FormatRefusal::Length);
+    match format.len() {
+        0..=64 => check_within::<64>(format),
+        65..=256 => check_within::<256>(format),
+        257..=LONGEST_FORMAT => check_within::<LONGEST_FORMAT>(format),
+        _ => Err(FormatRefusal::Length),
     }
-    if format.len() <= 64 {
-        return check_short(format);
-    }
-    if format.len() <= 256 {
-        return check_middle(format);
-    }
-    check_long(format)
 }

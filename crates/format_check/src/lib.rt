@@ -3,13 +3,5 @@
 
 pub mod check;
 
-use format_items::FormatRefusal;
-// The number and the place of a refusal.
-pub use format_items::refusal;
-
-// What the format check answers.
-#[derive(Clone, Copy)]
-pub enum FormatCheck {
-    Accepted,
-    Refused(FormatRefusal),
-}
+// Why a format is refused, with the number and the place.
+pub use format_items::FormatRefusal;

@@ -8,9 +8,10 @@ use native.Mathlib.Omega.{arith}
 use borrow.Author.Tests.{lt-ltb, le-ltb, ltb-true, ltb-false}
 use lib.Dec.{ltb}
 use lib.ListN.{length}
+use Rattle.std.specs.Prelude.{Option, Some, None}
 use Rattle.format_items.specs.Items.{Items}
 use Rattle.format_grammar.specs.Grammar.{Format}
-use Rattle.format_items.specs.Ranges.{numbers, FirstOutside, nowhere, at, first_outside, AllWithin}
+use Rattle.format_items.specs.Ranges.{numbers, first_outside, AllWithin}
 use Rattle.format_items.specs.Size.{size, largest_size}
 use Rattle.format_grammar.specs.Reading.{Reading, items, wrong, reading}
 use Rattle.format_grammar.specs.Check.{Outcome, accepted, refused, check_size, check_range, check_grammar, outcome, outcome_number, outcome_place}
@@ -21,7 +22,7 @@ use Rattle.format_grammar.specs.Promises.{Answers, Acceptable, TooLong, NotGramm
 use Rattle.format_grammar.proofs.Complete.{complete}
 use Rattle.format_grammar.proofs.Sound.{sound}
 use Rattle.format_grammar.proofs.Place.{place_is, one_place}
-use Rattle.format_items.proofs.RangeLaws.{all_nowhere, nowhere_all, at_first, first_at}
+use Rattle.format_items.proofs.RangeLaws.{none_outside, all_within, at_first, first_at}
 use Rattle.format_grammar.proofs.NumberOrder
 use Rattle.format_grammar.proofs.MetRanges
 
@@ -56,9 +57,9 @@ said_size s xs h f r = go (ltb largest_size (size xs)) refl
 said_range : (s : List ℕ) (xs : Items) → length s ≤ longest_format → Format s xs → Said s (check_range (first_outside (numbers xs)) xs)
 said_range s xs h f = go (first_outside (numbers xs)) refl
   where
-    go : (o : FirstOutside) → first_outside (numbers xs) ≡ o → Said s (check_range o xs)
-    go nowhere e = said_size s xs h f (nowhere_all (numbers xs) e)
-    go (at p) e = Said.out_of_range (record { short = h; read = xs; format = f; place_is = at_first (numbers xs) p e })
+    go : (o : Option ℕ) → first_outside (numbers xs) ≡ o → Said s (check_range o xs)
+    go None e = said_size s xs h f (all_within (numbers xs) e)
+    go (Some p) e = Said.out_of_range (record { short = h; read = xs; format = f; place_is = at_first (numbers xs) p e })
 
 said_grammar : (s : List ℕ) → length s ≤ longest_format → Said s (check_grammar (reading s))
 said_grammar s h = go (reading s) refl
@@ -89,7 +90,7 @@ outcome_read : (s : List ℕ) (xs : Items) → length s ≤ longest_format → F
 outcome_read s xs h f = outcome_short s h ∙ rw (complete f)
 
 outcome_ranged : (s : List ℕ) (xs : Items) → length s ≤ longest_format → Format s xs → AllWithin (numbers xs) → outcome s ≡ check_size xs
-outcome_ranged s xs h f r = outcome_read s xs h f ∙ rw (all_nowhere (numbers xs) r)
+outcome_ranged s xs h f r = outcome_read s xs h f ∙ rw (none_outside (numbers xs) r)
 
 pub always_answered : AlwaysAnswered
 always_answered s = go (said s)

@@ -1,9 +1,9 @@
 -- Document 01, 'Checks by place': rows 2 to 5. 'The format check takes the format alone and applies rows 2 to 5', 'in this
 -- order'. Row 2 stands last in this file, since each row is written with the rows that apply after it.
 -- Assumes nothing.
-use Rattle.std.specs.Prelude.{cond, List, ℕ, ltb, length}
+use Rattle.std.specs.Prelude.{cond, List, ℕ, ltb, length, Option, Some, None}
 use Rattle.format_items.specs.Items.{Items, none}
-use Rattle.format_items.specs.Ranges.{numbers, FirstOutside, nowhere, at, first_outside}
+use Rattle.format_items.specs.Ranges.{numbers, first_outside}
 use Rattle.format_items.specs.Size.{size, largest_size}
 use Rattle.format_grammar.specs.Reading.{Reading, items, wrong, reading}
 use Rattle.format_items.specs.Refusals.{longest_format, refusal_number, refusal_place}
@@ -20,9 +20,9 @@ abbrev pub check_size : Items → Outcome
 check_size xs = cond (ltb largest_size (size xs)) (refused Size) (accepted xs)
 
 -- row 4: 'a number out of range'
-abbrev pub check_range : FirstOutside → Items → Outcome
-check_range nowhere xs = check_size xs
-check_range (at p) xs = refused (Range p)
+abbrev pub check_range : Option ℕ → Items → Outcome
+check_range None xs = check_size xs
+check_range (Some p) xs = refused (Range p)
 
 -- row 3: 'not of the grammar'. (`reading` need not be believed: by the laws `AcceptsExactly` and `GrammarRefused` of
 -- `Promises` it reads exactly what the grammar derives.)

@@ -7,8 +7,9 @@ use Prim.Native.Nat.{ℕ, ◌≤◌}
 use native.Mathlib.Omega.{arith}
 use borrow.Author.Tests.{ltb-false, le-ltb}
 use lib.Dec.{ltb}
+use Rattle.std.specs.Prelude.{Some, None}
 use Rattle.format_items.specs.Items.{value_of, Repeat, times}
-use Rattle.format_items.specs.Ranges.{Ranged, ranged, outside, place, nowhere, at, first_outside, repeat_numbers, Within, AllWithin}
+use Rattle.format_items.specs.Ranges.{Ranged, ranged, outside, place, first_outside, repeat_numbers, Within, AllWithin}
 use Rattle.format_items.specs.Promises.{FirstOutsideAt}
 
 -- ---- one number
@@ -37,7 +38,7 @@ not_outside n h = go (outside n) refl
 -- ---- numbers in a row
 
 module _ (n : Ranged) (ns : List Ranged) where
-  first_here : outside n ≡ true → first_outside (n ∷ ns) ≡ at (place n)
+  first_here : outside n ≡ true → first_outside (n ∷ ns) ≡ Some (place n)
   unfolding first_outside
   first_here e = rw e
 
@@ -45,25 +46,25 @@ module _ (n : Ranged) (ns : List Ranged) where
   unfolding first_outside
   first_later e = rw e
 
-pub all_nowhere : (ns : List Ranged) → AllWithin ns → first_outside ns ≡ nowhere
+pub none_outside : (ns : List Ranged) → AllWithin ns → first_outside ns ≡ None
 unfolding first_outside
-all_nowhere [] h = refl
-all_nowhere (n ∷ ns) h = first_later n ns (within_inside n h.0) ∙ all_nowhere ns h.1
+none_outside [] h = refl
+none_outside (n ∷ ns) h = first_later n ns (within_inside n h.0) ∙ none_outside ns h.1
 
-pub nowhere_all : (ns : List Ranged) → first_outside ns ≡ nowhere → AllWithin ns
-nowhere_all [] e = tt
-nowhere_all (n ∷ ns) e = go (outside n) refl (nowhere_all ns)
+pub all_within : (ns : List Ranged) → first_outside ns ≡ None → AllWithin ns
+all_within [] e = tt
+all_within (n ∷ ns) e = go (outside n) refl (all_within ns)
   where
-    go : (t : Bool) → outside n ≡ t → (first_outside ns ≡ nowhere → AllWithin ns) → AllWithin (n ∷ ns)
+    go : (t : Bool) → outside n ≡ t → (first_outside ns ≡ None → AllWithin ns) → AllWithin (n ∷ ns)
     go true f r = let k = first_here n ns f in let z : ◌≡◌ {A = ℕ} 0 1 = cc in absurd (omega arith)
     go false f r = (inside_within n f, r (sym (first_later n ns f) ∙ e))
 
-pub at_first : (ns : List Ranged) (p : ℕ) → first_outside ns ≡ at p → FirstOutsideAt ns p
+pub at_first : (ns : List Ranged) (p : ℕ) → first_outside ns ≡ Some p → FirstOutsideAt ns p
 unfolding first_outside
 at_first [] p e = let z : ◌≡◌ {A = ℕ} 0 1 = cc in absurd (omega arith)
 at_first (n ∷ ns) p e = go (outside n) refl (at_first ns p)
   where
-    go : (t : Bool) → outside n ≡ t → (first_outside ns ≡ at p → FirstOutsideAt ns p) → FirstOutsideAt (n ∷ ns) p
+    go : (t : Bool) → outside n ≡ t → (first_outside ns ≡ Some p → FirstOutsideAt ns p) → FirstOutsideAt (n ∷ ns) p
     go true f r =
         let k = first_here n ns f in
         let z : place n ≡ p = cc in
@@ -72,12 +73,12 @@ at_first (n ∷ ns) p e = go (outside n) refl (at_first ns p)
         let k = r (sym (first_later n ns f) ∙ e) in
         record { before = n ∷ k.before; n = k.n; after = k.after; split = ap (n ∷◌) k.split; before_within = (inside_within n f, k.before_within); not_within = k.not_within; stands = k.stands }
 
-first_past : (before : List Ranged) (n : Ranged) (after : List Ranged) → AllWithin before → (Within n → ⊥) → first_outside (before ++ n ∷ after) ≡ at (place n)
+first_past : (before : List Ranged) (n : Ranged) (after : List Ranged) → AllWithin before → (Within n → ⊥) → first_outside (before ++ n ∷ after) ≡ Some (place n)
 first_past [] n after h out = first_here n after (not_outside n out)
 first_past (b ∷ before) n after h out = first_later b _ (within_inside b h.0) ∙ first_past before n after h.1 out
 
-pub first_at : (ns : List Ranged) (p : ℕ) → FirstOutsideAt ns p → first_outside ns ≡ at p
-first_at ns p h = rw h.split (first_past h.before h.n h.after h.before_within h.not_within ∙ ap at h.stands)
+pub first_at : (ns : List Ranged) (p : ℕ) → FirstOutsideAt ns p → first_outside ns ≡ Some p
+first_at ns p h = rw h.split (first_past h.before h.n h.after h.before_within h.not_within ∙ ap Some h.stands)
 
 -- ---- parts of a list
 

@@ -1,6 +1,6 @@
 -- Document 01, 'The format': 'Ranges: r, and n in X and T, 1 to 255; w 1 to 64; d 0 to 9.'
 -- Assumes nothing.
-use Rattle.std.specs.Prelude.{Bool, ◌||◌, cond, List, [], ◌∷◌, ◌++◌, ℕ, ◌≤◌, ltb}
+use Rattle.std.specs.Prelude.{Bool, ◌||◌, cond, List, [], ◌∷◌, ◌++◌, ℕ, ◌≤◌, ltb, Option, Some, None}
 use Rattle.format_items.specs.Items.{Number, offset, value_of, Repeat, absent, given, Field, I, F, L, A, Aw, Items, none, field, group, X, T, slash, literal}
 
 -- a number and its range, both ends included
@@ -61,12 +61,7 @@ outside (ranged n low high) = ltb (value_of n) low || ltb high (value_of n)
 abbrev pub place : Ranged → ℕ
 place (ranged n low high) = offset n
 
--- no number out of range, or one at an offset
-pub data FirstOutside : Type 0 where
-  nowhere : FirstOutside
-  at : ℕ → FirstOutside
-
--- 'offset of the first such number'
-unfoldable pub first_outside : List Ranged → FirstOutside
-first_outside [] = nowhere
-first_outside (n ∷ ns) = cond (outside n) (at (place n)) (first_outside ns)
+-- 'offset of the first such number', if there is one
+unfoldable pub first_outside : List Ranged → Option ℕ
+first_outside [] = None
+first_outside (n ∷ ns) = cond (outside n) (Some (place n)) (first_outside ns)

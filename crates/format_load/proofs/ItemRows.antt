@@ -1,23 +1,24 @@
 -- Rows 3 to 5, from what the reader and the size say.
 -- Assumes nothing.
-use mathlib.Core.Path.{◌≡◌, refl, sym, ap, ◌∙◌}
+use mathlib.Core.Path.{◌≡◌, sym, ap, ◌∙◌}
 use mathlib.Core.List.{List}
-use Prim.Native.Nat.{ℕ, ◌-◌, ◌<◌, ◌≤◌}
+use Prim.Native.Nat.{ℕ, ◌<◌, ◌≤◌}
 use native.Mathlib.Omega.{arith}
 use borrow.Author.Tests.{lt-ltb, le-ltb}
 use lib.ListN.{length}
-use Rattle.format_items.specs.Ranges.{numbers, FirstOutside, nowhere, at, first_outside}
+use Rattle.std.specs.Prelude.{Option, Some, None}
+use Rattle.format_items.specs.Ranges.{numbers, first_outside}
 use Rattle.format_items.specs.Size.{size}
 use Rattle.format_grammar.specs.Reading.{wrong, reading}
 use Rattle.format_grammar.specs.Check.{refused, check_size, check_range, outcome}
 use Rattle.format_items.specs.declared.FormatRefusal.TheVariants.{Grammar, Range, Size}
-use Rattle.format_items.proofs.RangeLaws.{nowhere_all}
+use Rattle.format_items.proofs.RangeLaws.{all_within}
 use Rattle.format_grammar.proofs.Promises.{outcome_short}
 use Rattle.format_words.specs.Held.{SomeItems}
 use Rattle.format_run.specs.Sizes.{capped}
 use Rattle.format_run.specs.Runs.{SomeItemsFit}
 use Rattle.format_read.specs.declared.Position.{Position}
-use Rattle.format_read.specs.Whole.{kept, ItemsRead}
+use Rattle.format_read.specs.Whole.{ItemsRead}
 use Rattle.format_load.specs.ItemsChecked.{ItemsHeld}
 
 module _ (s : List ℕ) (short : length s ≤ 1024) where
@@ -28,20 +29,12 @@ module _ (s : List ℕ) (short : length s ≤ 1024) where
     after_grammar : outcome s ≡ check_range (first_outside (numbers i.read)) i.read
     after_grammar = outcome_short s short ∙ rw i.is
 
-    pub row_range : (p.outside ≡ 0 → ⊥) → outcome s ≡ refused (Range (p.outside - 1))
-    row_range h = after_grammar ∙ go (first_outside (numbers i.read)) i.outside_is
-      where
-        go : (f : FirstOutside) → p.outside ≡ kept f → check_range f i.read ≡ refused (Range (p.outside - 1))
-        go nowhere e = absurd (h e)
-        go (at q) e = let k : q ≡ p.outside - 1 = omega (arith, e) in ap (λ (z : ℕ). refused (Range z)) k
+    pub row_range : {q : ℕ} → p.outside ≡ Some q → outcome s ≡ refused (Range q)
+    row_range {q} h = after_grammar ∙ ap (λ (f : Option ℕ). check_range f i.read) (sym i.outside_is ∙ h)
 
-    module _ (h : p.outside ≡ 0) where
-      none_outside : first_outside (numbers i.read) ≡ nowhere
-      none_outside = go (first_outside (numbers i.read)) (sym i.outside_is ∙ h)
-        where
-          go : (f : FirstOutside) → kept f ≡ 0 → f ≡ nowhere
-          go nowhere e = refl
-          go (at q) e = absurd (omega (arith, e))
+    module _ (h : p.outside ≡ None) where
+      none_outside : first_outside (numbers i.read) ≡ None
+      none_outside = sym i.outside_is ∙ h
 
       after_range : outcome s ≡ check_size i.read
       after_range = after_grammar ∙ rw none_outside
@@ -57,7 +50,7 @@ module _ (s : List ℕ) (short : length s ≤ 1024) where
             c = p.chars;
             holds = i.holds;
             within = omega (arith, i.few_chars);
-            ranges = nowhere_all (numbers i.read) none_outside;
+            ranges = all_within (numbers i.read) none_outside;
             sized = omega arith;
             small = g;
           }

@@ -1,6 +1,6 @@
 -- A format loaded: what its run of words means.
 -- Assumes nothing.
-use Rattle.std.specs.Prelude.{◌≡◌, List, map, ℕ, ◌≤◌, length, take, drop}
+use Rattle.std.specs.Prelude.{◌≡◌, List, map, ℕ, ◌≤◌, length, take, drop, Result, Ok, Err}
 use Rattle.format_items.specs.Items.{Items}
 use Rattle.format_items.specs.Met.{met, return_part}
 use Rattle.format_items.specs.Size.{largest_size}
@@ -8,8 +8,9 @@ use Rattle.format_grammar.specs.Check.{accepted, refused, outcome}
 use Rattle.format_items.specs.Refusals.{longest_format}
 use Rattle.format_items.specs.MetRanges.{AllMetWithin}
 use Rattle.format_words.specs.Words.{met_of, RunWords}
-use Rattle.format_load.specs.declared.Loading.{Loading}
-use Rattle.format_load.specs.declared.Loading.TheVariants.{Refused, Larger, Run}
+use Rattle.format_run.specs.declared.unroll.Unrolled.{Unrolled}
+use Rattle.format_load.specs.declared.LoadError.{LoadError}
+use Rattle.format_load.specs.declared.LoadError.TheVariants.{Refused, TooSmall}
 
 -- an accepted format: the words stand for the items met, the characters of their literals being in t, and those from `back` on
 -- for the part to return to
@@ -28,7 +29,7 @@ pub record SomeRun (t words : List ℕ) (back : ℕ) : Type 0 where
 
 -- the refusal; or that arrays of these lengths (of entries, of characters, of words) are not all of the largest size that a
 -- format may need; or the run
-abbrev pub loaded : List ℕ → ℕ → ℕ → ℕ → List ℕ → List ℕ → Loading → Type 0
-loaded format e c n t run (Refused why) = outcome format ≡ refused why
-loaded format e c n t run Larger = longest_format ≤ e → longest_format ≤ c → largest_size ≤ n → ⊥
-loaded format e c n t run (Run end back) = (end ≤ length run) × RunHeld format t (take end run) back
+abbrev pub loaded : List ℕ → ℕ → ℕ → ℕ → List ℕ → List ℕ → Result Unrolled LoadError → Type 0
+loaded format e c n t run (Err (Refused why)) = outcome format ≡ refused why
+loaded format e c n t run (Err TooSmall) = longest_format ≤ e → longest_format ≤ c → largest_size ≤ n → ⊥
+loaded format e c n t run (Ok u) = (u.end ≤ length run) × RunHeld format t (take u.end run) u.back

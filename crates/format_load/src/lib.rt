@@ -1,25 +1,34 @@
 // A format loaded: its text checked, and its items unrolled into a run of words.
 #![tactic(auto)]
 
+ghost use Rattle.std.specs.Prelude.{◌≡◌};
+ghost use Rattle.format_load.specs.declared.LoadError.TheVariants.{Refused};
+
 pub mod items;
 pub mod load;
 
 use format_items::FormatRefusal;
 
-// A format's items: how many entries hold them, and their size; or a refusal.
-#[derive(Clone, Copy)]
-pub enum ItemsChecked {
-    Items { entries: usize, size: usize },
-    Refused(FormatRefusal),
+// A format's items: how many entries hold them, and their size.
+#[derive(Clone, Copy, PartialEq, Eq, Debug)]
+pub struct CheckedItems {
+    pub entries: usize,
+    pub size: usize,
 }
 
-// What loading answers.
-#[derive(Clone, Copy)]
-pub enum Loading {
+// Why a format is not loaded.
+#[derive(Clone, Copy, PartialEq, Eq, Debug)]
+pub enum LoadError {
     // The format is refused.
     Refused(FormatRefusal),
     // The arrays are too small for this format.
-    Larger,
-    // The run is the first `end` words; the walk returns to the word at `back`.
-    Run { end: usize, back: usize },
+    TooSmall,
+}
+
+impl From<FormatRefusal> for LoadError {
+    ghost from_gives = { λ refusal e. e ≡ Refused refusal };
+
+    fn from(refusal: FormatRefusal) -> LoadError {
+        LoadError::Refused(refusal)
+    }
 }

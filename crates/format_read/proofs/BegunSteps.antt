@@ -1,92 +1,105 @@
 -- Items that are neither groups nor literals, from their beginning: the digits, if any, and the byte after them.
 -- Assumes nothing.
 use mathlib.Core.Path.{◌≡◌, refl, sym, ap, ◌∙◌, subst}
+use mathlib.Core.Bool.{true, false}
 use mathlib.Core.List.{List, [], ◌∷◌, ◌++◌, append-nil}
 use Prim.Native.Nat.{ℕ, ◌+◌, ◌*◌, ◌<◌}
 use native.Mathlib.Omega.{arith}
 use borrow.Author.Tests.{ne_eqb}
 use lib.ListN.{length, get_or}
-use Rattle.format_items.specs.Items.{number, Repeat, times, Items, join}
+use Rattle.std.specs.Prelude.{Option, Some, None, is_some, unwrap_or, Result, Ok, Err}
+use Rattle.format_items.specs.Items.{number, Repeat, Items, join}
 use Rattle.format_items.specs.Ranges.{ranged, repeat_numbers, numbers}
 use Rattle.format_items.specs.Met.{Met}
-use Rattle.format_grammar.specs.Reading.{Use, Mode, Open, State, wanted, written, begun}
+use Rattle.format_grammar.specs.Reading.{Use, Mode, Open, State, wanted, begun}
 use Rattle.format_words.specs.Words.{met_of, kind_x}
 use Rattle.format_words.specs.Held.{First}
 use Rattle.format_words.proofs.WordLaws.{met-X, met_slash}
-use Rattle.format_read.specs.Steps.{NumberFound, outside_after, ItemRead, Stuck, item_read, ended, NoBracketOrMark, NoFieldLetter}
+use Rattle.format_read.specs.Steps.{number_at, NumberFound, outside_after, ItemRead, Stuck, item_read, ended, NoBracketOrMark}
 use Rattle.format_read.specs.declared.Single.{Single}
-use Rattle.format_read.specs.declared.Single.TheVariants as single
-use Rattle.format_grammar.proofs.NumberLaws.{written_given}
-use Rattle.format_read.proofs.SingleSteps.{outside_append, number_stuck, number_on, plain_word}
+use Rattle.format_read.specs.declared.Ungrammatical.{Ungrammatical}
+use Rattle.format_read.proofs.SingleSteps.{times_at, times_few, outside_append, number_stuck, number_on, plain_word}
 
-module _ {s : List ℕ} {from v at : ℕ} (f : NumberFound s from v at) (h : at < length s) (k : Repeat) (e : written from at v ≡ k) where
+module _ {s : List ℕ} {from at : ℕ} {v : Option ℕ} (f : NumberFound s from v at) (h : at < length s) where
   -- a letter that a number follows
-  pub begun_read : (u : Use) → ((l : ℕ) (xs : Items) (q : Open) → begun k at l xs q (get_or s at 0) ≡ State.within (Mode.digits u (at + 1) 0) l xs q)
-      → (o o₁ : ℕ) → o₁ ≡ outside_after o (repeat_numbers (written from at v)) → (x : Single) → ended s (at + 1) u k o₁ x → item_read s from (wanted from) [] (from + 1) o x
-  begun_read u g o o₁ out (single.Word w r next o') i =
+  pub begun_read : (u : Use) → ((l : ℕ) (xs : Items) (q : Open) → begun (number_at from v) at l xs q (get_or s at 0) ≡ State.within (Mode.digits u (at + 1) 0) l xs q)
+      → (o o₁ : Option ℕ) → o₁ ≡ outside_after o (repeat_numbers (number_at from v)) → (x : Result Single Ungrammatical) → ended s (at + 1) u (number_at from v) o₁ x → item_read s from (wanted from) [] (from + 1) o x
+  begun_read u g o o₁ out (Ok x) i =
+      let k = number_at from v in
       record {
         item = i.item;
         met = i.met;
         late = repeat_numbers k ++ i.late;
         first = i.first;
-        runs = λ l xs q. number_on f Use.start k e h (λ l xs q. State.within (Mode.digits u (at + 1) 0) l xs q) g (λ l xs q a b. refl) l xs q ∙ i.runs l xs q;
+        runs = λ l xs q. number_on f Use.start h (λ l xs q. State.within (Mode.digits u (at + 1) 0) l xs q) g (λ l xs q a b. refl) l xs q ∙ i.runs l xs q;
         means = i.means;
         kind = i.kind;
         numbers_are = i.numbers_are;
-        outside_is = i.outside_is ∙ ap (λ (z : ℕ). outside_after z i.late) (out ∙ ap (λ (n : Repeat). outside_after o (repeat_numbers n)) e) ∙ sym (outside_append o (repeat_numbers k) i.late);
+        outside_is = i.outside_is ∙ ap (λ (z : Option ℕ). outside_after z i.late) out ∙ sym (outside_append o (repeat_numbers k) i.late);
         low_word = i.low_word;
         few = i.few;
         more = omega (arith, f.low, i.more);
         high = i.high;
       }
-  begun_read u g o o₁ out (single.Wrong p) i = λ l xs q. number_on f Use.start k e h (λ l xs q. State.within (Mode.digits u (at + 1) 0) l xs q) g (λ l xs q a b. refl) l xs q ∙ i l xs q
+  begun_read u g o o₁ out (Err x) i = λ l xs q. number_on f Use.start h (λ l xs q. State.within (Mode.digits u (at + 1) 0) l xs q) g (λ l xs q a b. refl) l xs q ∙ i l xs q
 
   -- a byte that no item goes on with
-  pub begun_stuck : ((l : ℕ) (xs : Items) (q : Open) → begun k at l xs q (get_or s at 0) ≡ State.dead) → Stuck s from (wanted from) at
-  begun_stuck g = number_stuck f Use.start k e g
+  pub begun_stuck : ((l : ℕ) (xs : Items) (q : Open) → begun (number_at from v) at l xs q (get_or s at 0) ≡ State.dead) → Stuck s from (wanted from) at
+  begun_stuck g = number_stuck f Use.start g
 
-  pub slash_read : get_or s at 0 ≡ 47 → (r : ℕ) → times k ≡ r → r < 1000 → (o o₁ : ℕ) → o₁ ≡ outside_after o (repeat_numbers (written from at v)) → ItemRead s from (wanted from) [] (from + 1) o 7 r (at + 1) o₁
+  pub slash_read : get_or s at 0 ≡ 47 → (r : ℕ) → r ≡ unwrap_or v 1 → (o o₁ : Option ℕ) → o₁ ≡ outside_after o (repeat_numbers (number_at from v)) → ItemRead s from (wanted from) [] (from + 1) o 7 r (at + 1) o₁
   unfolding numbers
-  slash_read g r rep few o o₁ out =
+  slash_read g r rep o o₁ out =
+      let k = number_at from v in
       record {
         item = Items.slash k Items.none;
         met = Met.slash;
         late = repeat_numbers k;
-        first = subst (λ (m : ℕ). First (Items.slash k Items.none) m Met.slash Items.none) rep First.slash;
-        runs = number_on f Use.start k e h (λ l xs q. State.within Mode.after l (join xs (Items.slash k Items.none)) q) (λ l xs q. rw g) (λ l xs q a b. refl);
+        first = subst (λ (m : ℕ). First (Items.slash k Items.none) m Met.slash Items.none) (times_at from v ∙ sym rep) First.slash;
+        runs = number_on f Use.start h (λ l xs q. State.within Mode.after l (join xs (Items.slash k Items.none)) q) (λ l xs q. rw g) (λ l xs q a b. refl);
         means = λ t. met_slash t;
         kind = omega arith;
         numbers_are = append-nil (repeat_numbers k);
-        outside_is = out ∙ ap (λ (n : Repeat). outside_after o (repeat_numbers n)) e;
+        outside_is = out;
         low_word = omega arith;
-        few = few;
+        few = rw rep (times_few f);
         more = omega (arith, f.low);
         high = omega arith;
       }
 
-  pub begun_other : NoBracketOrMark (get_or s at 0) → NoFieldLetter (get_or s at 0) → (get_or s at 0 ≡ 84 → ⊥) → (get_or s at 0 ≡ 88 → ⊥) → (get_or s at 0 ≡ 47 → ⊥) → Stuck s from (wanted from) at
-  begun_other n f t x d =
+  pub begun_other : NoBracketOrMark (get_or s at 0) → (get_or s at 0 ≡ 73 → ⊥) → (get_or s at 0 ≡ 70 → ⊥) → (get_or s at 0 ≡ 76 → ⊥) → (get_or s at 0 ≡ 65 → ⊥) → (get_or s at 0 ≡ 84 → ⊥) → (get_or s at 0 ≡ 88 → ⊥) → (get_or s at 0 ≡ 47 → ⊥)
+      → Stuck s from (wanted from) at
+  begun_other n i j l a t x d =
       let b = get_or s at 0 in
-      begun_stuck (λ l xs q. simp (ne_eqb b 73 f.no-I, ne_eqb b 70 f.no-F, ne_eqb b 76 f.no-L, ne_eqb b 65 f.no-A, ne_eqb b 40 n.no_bracket, ne_eqb b 88 x, ne_eqb b 84 t, ne_eqb b 47 d, ne_eqb b 39 n.no_apostrophe, ne_eqb b 34 n.no_quotation_mark))
+      begun_stuck (λ l' xs q. simp (ne_eqb b 73 i, ne_eqb b 70 j, ne_eqb b 76 l, ne_eqb b 65 a, ne_eqb b 40 n.no_bracket, ne_eqb b 88 x, ne_eqb b 84 t, ne_eqb b 47 d, ne_eqb b 39 n.no_apostrophe, ne_eqb b 34 n.no_quotation_mark))
 
-pub X-read : {s : List ℕ} {from v at : ℕ} → NumberFound s from v at → at < length s → (at ≡ from → ⊥) → get_or s at 0 ≡ 88 → (o o₁ : ℕ) → o₁ ≡ outside_after o (repeat_numbers (written from at v))
+pub X-read : {s : List ℕ} {from v at : ℕ} → NumberFound s from (Some v) at → at < length s → get_or s at 0 ≡ 88 → (o o₁ : Option ℕ) → o₁ ≡ outside_after o (repeat_numbers (Repeat.given (number from v)))
     → ItemRead s from (wanted from) [] (from + 1) o (v * 16 + 5) 1 (at + 1) o₁
 unfolding numbers
-X-read {s} {from} {v} {at} f h z g o o₁ out =
+X-read {s} {from} {v} {at} f h g o o₁ out =
     let n = number from v in
-    let e : written from at v ≡ Repeat.given n = written_given from at v z in
     record {
       item = Items.X n Items.none;
       met = Met.X v;
       late = ranged n 1 255 ∷ [];
       first = First.X;
-      runs = number_on f Use.start (Repeat.given n) e h (λ l xs q. State.within Mode.after l (join xs (Items.X n Items.none)) q) (λ l xs q. rw g) (λ l xs q a b. refl);
+      runs = number_on f Use.start h (λ l xs q. State.within Mode.after l (join xs (Items.X n Items.none)) q) (λ l xs q. rw g) (λ l xs q a b. refl);
       means = λ t. subst (λ (w : ℕ). met_of t w ≡ Met.X v) (plain_word kind_x v) (met-X t v (omega (arith, f.small)));
       kind = omega arith;
       numbers_are = refl;
-      outside_is = out ∙ ap (λ (k : Repeat). outside_after o (repeat_numbers k)) e;
+      outside_is = out;
       low_word = omega (arith, f.small);
       few = omega arith;
       more = omega (arith, f.low);
       high = omega arith;
     }
+
+-- T and its number: no digit may stand before it
+pub T-after_digits : {s : List ℕ} {from at : ℕ} {v : Option ℕ} → NumberFound s from v at → at < length s → get_or s at 0 ≡ 84 → is_some v ≡ true → Stuck s from (wanted from) at
+T-after_digits {v = None} f h g e = absurd (cc)
+T-after_digits {v = Some v} f h g e = begun_stuck f h (λ l xs q. rw g)
+
+pub T-read : {s : List ℕ} {from at : ℕ} {v : Option ℕ} → NumberFound s from v at → at < length s → get_or s at 0 ≡ 84 → is_some v ≡ false → (o o₁ : Option ℕ) → o₁ ≡ outside_after o (repeat_numbers (number_at from v))
+    → (x : Result Single Ungrammatical) → ended s (at + 1) Use.column Repeat.absent o₁ x → item_read s from (wanted from) [] (from + 1) o x
+T-read {v = None} f h g e o o₁ out x i = begun_read f h Use.column (λ l xs q. rw g) o o₁ out x i
+T-read {v = Some v} f h g e o o₁ out x i = absurd (cc)

@@ -1,18 +1,19 @@
 -- The digits of a number, one after another.
 -- Assumes nothing.
 use mathlib.Core.Path.{◌≡◌, refl, ◌∙◌}
-use mathlib.Core.Bool.{true, false, ◌&&◌}
+use mathlib.Core.Bool.{Bool, true, false, ◌&&◌}
 use mathlib.Core.List.{List}
-use Prim.Native.Nat.{ℕ, ◌+◌, ◌-◌, ◌*◌, ◌<◌, ◌≤◌}
+use Prim.Native.Nat.{ℕ, ◌+◌, ◌-◌, ◌*◌, ◌<◌, ◌≤◌, min}
 use native.Mathlib.Omega.{arith}
-use borrow.Author.Tests.{le-ltb}
+use borrow.Author.Tests.{le-ltb, ltb-true, ltb-false}
 use lib.Dec.{ltb}
 use lib.ListN.{length, get_or}
+use Rattle.std.specs.Bool.{then_some}
 use Rattle.number.specs.Digits.{is_digit}
 use Rattle.number.proofs.DigitLaws.{digit_bounds}
 use Rattle.format_items.specs.Items.{Items}
 use Rattle.format_grammar.specs.Reading.{Use, Mode, Open, State, read_at}
-use Rattle.format_grammar.proofs.NumberLaws.{not_digit}
+use Rattle.format_grammar.proofs.NumberLaws.{not_digit, written_given, written_absent}
 use Rattle.format_grammar.proofs.ReadLaws.{read_step, step_digit}
 use Rattle.format_read.specs.Steps.{NumberFound}
 
@@ -46,14 +47,25 @@ digits_more {s} {at} {value} {i} f h g d x e =
       small0 = λ m. absurd (omega (arith, f.low));
     }
 
-stopped : {s : List ℕ} {at value i : ℕ} → DigitsSoFar s at value i → (i < length s → (ltb i (at + 3) && is_digit (get_or s i 0)) ≡ false) → NumberFound s at value i
-stopped f e = record { runs = f.runs; stops = e; small = f.small; low = f.low; high = f.high }
+-- no more of them are to be had
+abbrev pub Stops : List ℕ → ℕ → ℕ → Type 0
+Stops s at i = i < length s → (ltb i (at + 3) && is_digit (get_or s i 0)) ≡ false
 
-pub digits_three : {s : List ℕ} {at value i : ℕ} → DigitsSoFar s at value i → at + 3 ≤ i → NumberFound s at value i
-digits_three {s} {at} {value} {i} f h = stopped f (λ _. simp (le-ltb i (at + 3) h))
+pub digits_stop : (s : List ℕ) (at i : ℕ) → is_digit (get_or s i 0) ≡ false → Stops s at i
+digits_stop s at i e = λ _. not_digit i at (get_or s i 0) e
 
-pub digits_stop : {s : List ℕ} {at value i : ℕ} → DigitsSoFar s at value i → is_digit (get_or s i 0) ≡ false → NumberFound s at value i
-digits_stop {s} {at} {value} {i} f e = stopped f (λ _. not_digit i at (get_or s i 0) e)
+pub digits_end : (s : List ℕ) (at i : ℕ) → i ≡ min (length s) (at + 3) → Stops s at i
+digits_end s at i e = λ h. simp (le-ltb i (at + 3) (omega arith))
 
-pub digits_end : {s : List ℕ} {at value i : ℕ} → DigitsSoFar s at value i → length s ≤ i → NumberFound s at value i
-digits_end f h = stopped f (λ g. absurd (omega arith))
+-- the number that they make, if there is a digit
+pub digits_all : {s : List ℕ} {at value i : ℕ} → DigitsSoFar s at value i → Stops s at i → NumberFound s at (then_some (ltb at i) value) i
+digits_all {s} {at} {value} {i} f e = go (ltb at i) refl
+  where
+    go : (t : Bool) → ltb at i ≡ t → NumberFound s at (then_some t value) i
+    go true g =
+        let h : at < i = ltb-true at i g in
+        record { runs = f.runs; stops = e; number_is = written_given at i value (λ z. omega arith); empty = λ z. absurd (cc); small = f.small; low = f.low; high = f.high }
+    go false g =
+        let h : i ≡ at = omega (arith, ltb-false at i g, f.low) in
+        let none : value ≡ 0 = omega (arith, f.small0 (omega arith)) in
+        record { runs = rw none at f.runs; stops = e; number_is = written_absent at i 0 h; empty = λ _. h; small = omega arith; low = f.low; high = f.high }

@@ -6,12 +6,13 @@ use Prim.Native.Nat.{ℕ, ◌+◌, ◌-◌, ◌<◌, ◌≤◌}
 use native.Mathlib.Omega.{arith}
 use borrow.Author.Tests.{ne_eqb}
 use lib.ListN.{length, get_or, take, set, length-set}
+use Rattle.std.specs.Prelude.{Option}
 use lib.Seq.{get_or-set_same, get_or-set_other, take-set-le, take-take, get_or-take}
 use Rattle.format_items.specs.Items.{times, Items, join}
 use Rattle.format_items.specs.Ranges.{repeat_numbers, numbers}
 use Rattle.format_grammar.specs.Reading.{Mode, Open, State, step, step_within, wanted, close, read_at}
 use Rattle.format_items.proofs.ItemLaws.{join_assoc, join_right, numbers_join}
-use Rattle.format_grammar.proofs.ReadLaws.{read_step, read_dead, read_end, close_live}
+use Rattle.format_grammar.proofs.ReadLaws.{read_step, read_stuck, close_live}
 use Rattle.format_words.specs.Words.{word, entry, kind_group}
 use Rattle.format_words.specs.Held.{GroupEntry, Holds}
 use Rattle.format_words.proofs.WordLaws.{kind_word, first_word, word_entry, repeat_entry}
@@ -60,7 +61,7 @@ module _ {s : List ℕ} {l r : ℕ} {p inside p' : Position} {a t b u d v : List
         entries_kept = ap (take n) g ∙ take-set-le n d n w (omega arith) ∙ sym (take-take n (n + 1) d (omega arith))
             ∙ ap (take n) (subst (λ (j : ℕ). take j d ≡ take j b) o.entries_are k.entries_kept ∙ ap (take (n + 1)) o.same_entries) ∙ take-take n (n + 1) a (omega arith);
         chars_kept = subst (λ (j : ℕ). take j v ≡ take j u) o.chars_are k.chars_kept ∙ ap (take p.chars) o.same_chars;
-        outside_is = k.outside_is ∙ ap (λ (z : ℕ). outside_after z (numbers k.items)) o.outside_is ∙ sym (outside_append p.outside (repeat_numbers o.k) (numbers k.items))
+        outside_is = k.outside_is ∙ ap (λ (z : Option ℕ). outside_after z (numbers k.items)) o.outside_is ∙ sym (outside_append p.outside (repeat_numbers o.k) (numbers k.items))
             ∙ ap (outside_after p.outside) (sym (append-nil (repeat_numbers o.k ++ numbers k.items)));
         more = omega (arith, o.more, k.more);
         high = k.high;
@@ -118,14 +119,11 @@ module _ {s : List ℕ} {l : ℕ} {start p : Position} {a t b u : List ℕ} (f :
     unfolding both
     read_both xs q = f.runs xs q ∙ k.runs (join xs f.items) q ∙ ap (λ (x : Items). read_at s p'.at (State.within Mode.after l x q)) (join_assoc xs f.items k.items)
 
-    pub so_far_end : length s ≤ p'.at → NoItem s l start.at p'.at
-    so_far_end h xs q = read_both xs q ∙ read_end s p'.at _ h
+    pub so_far_other : (p'.at < length s → get_or s p'.at 0 ≡ 41 → ⊥) → (p'.at < length s → get_or s p'.at 0 ≡ 44 → ⊥) → NoItem s l start.at p'.at
+    unfolding step step_within
+    so_far_other c e xs q = read_both xs q ∙ read_stuck s p'.at (State.within Mode.after l (join xs both) q) (λ h. simp (ne_eqb (get_or s p'.at 0) 44 (e h), ne_eqb (get_or s p'.at 0) 41 (c h))) refl
 
     module _ (h : p'.at < length s) where
-      pub so_far_other : (get_or s p'.at 0 ≡ 41 → ⊥) → (get_or s p'.at 0 ≡ 44 → ⊥) → NoItem s l start.at p'.at
-      unfolding step step_within
-      so_far_other c e xs q = read_both xs q ∙ read_dead s p'.at (State.within Mode.after l (join xs both) q) h (simp (ne_eqb (get_or s p'.at 0) 44 e, ne_eqb (get_or s p'.at 0) 41 c))
-
       module _ (long : length d ≡ length b) (long-v : length v ≡ length u) where
         same_entry : (i : ℕ) → i < p.entries → get_or d i 0 ≡ get_or b i 0
         same_entry i g = sym (get_or-take p.entries d i 0 g) ∙ ap (λ (z : List ℕ). get_or z i 0) k.entries_kept ∙ get_or-take p.entries b i 0 g
@@ -143,7 +141,7 @@ module _ {s : List ℕ} {l : ℕ} {start p : Position} {a t b u : List ℕ} (f :
         outside_both : p'.outside ≡ outside_after start.outside (numbers both)
         unfolding both
         outside_both =
-            k.outside_is ∙ ap (λ (z : ℕ). outside_after z (numbers k.items)) f.outside_is ∙ sym (outside_append start.outside (numbers f.items) (numbers k.items))
+            k.outside_is ∙ ap (λ (z : Option ℕ). outside_after z (numbers k.items)) f.outside_is ∙ sym (outside_append start.outside (numbers f.items) (numbers k.items))
             ∙ ap (outside_after start.outside) (sym (numbers_join f.items k.items))
 
         pub so_far_closed : get_or s p'.at 0 ≡ 41 → Took s l (wanted start.at) close start a t (record { at = p'.at + 1; entries = p'.entries; chars = p'.chars; outside = p'.outside }) d v

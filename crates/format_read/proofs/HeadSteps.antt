@@ -1,6 +1,6 @@
 -- The beginning of an item: the digits, if any, and the byte after them.
 -- Assumes nothing.
-use mathlib.Core.Path.{◌≡◌, refl, sym}
+use mathlib.Core.Path.{◌≡◌, refl, sym, ◌∙◌}
 use mathlib.Core.Logic.{⊎_elim}
 use mathlib.Core.Bool.{Bool, true, false, ◌||◌}
 use mathlib.Core.List.{List}
@@ -9,38 +9,38 @@ use native.Mathlib.Omega.{arith}
 use borrow.Author.Tests.{eq-eqb, ne_eqb, eqb-false}
 use lib.Dec.{eqb}
 use lib.ListN.{length, get_or}
-use Rattle.format_items.specs.Items.{number, Repeat, times, Items}
+use Rattle.std.specs.Prelude.{Option, Some, None, is_some, unwrap_or}
+use Rattle.format_items.specs.Items.{Items}
 use Rattle.format_items.specs.Ranges.{repeat_numbers}
-use Rattle.format_grammar.specs.Reading.{Use, Open, State, Reading, wanted, written, read_at}
-use Rattle.format_read.specs.Steps.{NumberFound, outside_after, Stuck, NoBracketOrMark, Opened}
+use Rattle.format_grammar.specs.Reading.{Use, Open, State, Reading, wanted, read_at}
+use Rattle.format_read.specs.Steps.{number_at, NumberFound, outside_after, Stuck, NoBracketOrMark, Opened}
 use Rattle.format_read.specs.declared.Position.{Position}
 use Rattle.format_grammar.proofs.Cases.{is_mark}
-use Rattle.format_grammar.proofs.NumberLaws.{written_given}
-use Rattle.format_read.proofs.SingleSteps.{number_stuck_at, number_on_at}
+use Rattle.format_read.proofs.SingleSteps.{times_at, times_few, number_stuck_at, number_on_at}
 use Rattle.format_read.proofs.BegunSteps.{begun_stuck}
 
 -- ---- an opening bracket
 
-module _ {s : List ℕ} {v at l : ℕ} (p : Position) (f : NumberFound s p.at v at) (h : at < length s) (e : get_or s at 0 ≡ 40) where
+module _ {s : List ℕ} {at l : ℕ} {v : Option ℕ} (p : Position) (f : NumberFound s p.at v at) (h : at < length s) (e : get_or s at 0 ≡ 40) where
   -- no level is left
   pub too_deep : l ≡ 0 → (xs : Items) (q : Open) → read_at s p.at (State.within (wanted p.at) l xs q) ≡ Reading.wrong at
-  too_deep z xs q = number_stuck_at f Use.start (written p.at at v) refl l xs q (rw (e, eq-eqb l 0 z))
+  too_deep z xs q = number_stuck_at f Use.start l xs q (rw (e, eq-eqb l 0 z))
 
-  pub opened : (l ≡ 0 → ⊥) → (r o : ℕ) → r ≡ times (written p.at at v) → r < 1000 → o ≡ outside_after p.outside (repeat_numbers (written p.at at v)) → (a t : List ℕ)
+  pub opened : (l ≡ 0 → ⊥) → (r : ℕ) (o : Option ℕ) → r ≡ unwrap_or v 1 → o ≡ outside_after p.outside (repeat_numbers (number_at p.at v)) → (a t : List ℕ)
       → Opened s l p (record { at = at + 1; entries = p.entries + 1; chars = p.chars; outside = o }) r a t a t
-  opened z r o rep few out a t =
-      let k = written p.at at v in
+  opened z r o rep out a t =
+      let k = number_at p.at v in
       record {
         k = k;
-        repeats = sym rep;
-        runs = λ xs q. number_on_at f Use.start k refl h l xs q (State.within (wanted (at + 1)) (l - 1) Items.none (Open.group xs k q)) (rw (e, ne_eqb l 0 z)) (λ a b. refl);
+        repeats = times_at p.at v ∙ sym rep;
+        runs = λ xs q. number_on_at f Use.start h l xs q (State.within (wanted (at + 1)) (l - 1) Items.none (Open.group xs k q)) (rw (e, ne_eqb l 0 z)) (λ a b. refl);
         outside_is = out;
         same_entries = refl;
         same_chars = refl;
         entries_are = refl;
         chars_are = refl;
         deep = omega arith;
-        few = few;
+        few = rw rep (times_few f);
         more = omega (arith, f.low);
         high = omega arith;
       }
@@ -48,11 +48,9 @@ module _ {s : List ℕ} {v at l : ℕ} (p : Position) (f : NumberFound s p.at v 
 -- ---- a mark
 
 -- digits before a mark
-pub mark_after_digits : {s : List ℕ} {from v at : ℕ} → NumberFound s from v at → at < length s → from < at → (eqb (get_or s at 0) 39 || eqb (get_or s at 0) 34) ≡ true → Stuck s from (wanted from) at
-mark_after_digits {s} {from} {v} {at} f h z e =
-    let n = Repeat.given (number from v) in
-    let given : written from at v ≡ Repeat.given (number from v) = written_given from at v (λ y. omega arith) in
-    ⊎_elim (λ m. begun_stuck f h n given (λ l xs q. rw m)) (λ m. begun_stuck f h n given (λ l xs q. rw m)) (is_mark (get_or s at 0) e)
+pub mark_after_digits : {s : List ℕ} {from at : ℕ} {v : Option ℕ} → NumberFound s from v at → at < length s → is_some v ≡ true → (eqb (get_or s at 0) 39 || eqb (get_or s at 0) 34) ≡ true → Stuck s from (wanted from) at
+mark_after_digits {v = None} f h z e = absurd (cc)
+mark_after_digits {s} {at = at} {v = Some v} f h z e = ⊎_elim (λ m. begun_stuck f h (λ l xs q. rw m)) (λ m. begun_stuck f h (λ l xs q. rw m)) (is_mark (get_or s at 0) e)
 
 -- neither a bracket nor a mark
 or_false : (a b : Bool) → (a || b) ≡ false → (a ≡ false) × (b ≡ false)

@@ -9,31 +9,58 @@ use native.Mathlib.Omega.{arith}
 use borrow.Author.Tests.{eq-eqb, ne_eqb}
 use lib.Dec.{eqb}
 use lib.ListN.{length, get_or}
+use Rattle.std.specs.Prelude.{Option, Some, None, is_some, unwrap_or, Result, Err, IsErrAnd}
+use Rattle.std.specs.Option.{ok_or}
+use Rattle.std.proofs.lemmas.Result.{err_from_is_err_and}
 use Rattle.format_items.specs.Items.{Number, number, value_of, Repeat, times, Field, Items, join}
 use Rattle.format_items.specs.Ranges.{Ranged, ranged, repeat_numbers, field_numbers, numbers}
 use Rattle.format_items.specs.Met.{Met, field_values}
-use Rattle.format_grammar.specs.Reading.{Use, Mode, Open, State, Reading, pick, step, step_within, unless_dead, written, used, separated, read_at}
-use Rattle.format_grammar.proofs.NumberLaws.{written_absent, written_given}
+use Rattle.format_grammar.specs.Reading.{Use, Mode, Open, State, Reading, pick, step, step_within, unless_dead, used, separated, read_at}
 use Rattle.format_grammar.proofs.ReadLaws.{read_step, read_end, read_same, read_stuck, step_used}
 use Rattle.format_words.specs.Words.{word, kind_of, met_of, kind_base, first_base, kind_i, kind_f, kind_l, kind_aw, kind_t, kind_literal}
 use Rattle.format_words.specs.Held.{First}
 use Rattle.format_words.proofs.WordLaws.{met-I, met-F, met-L, met-A, met-Aw, met-T}
-use Rattle.format_read.specs.Steps.{NumberFound, keep_first, outside_after, ItemRead, Stuck, Ends}
+use Rattle.format_read.specs.Steps.{number_at, NumberFound, keep_first, outside_after, ItemRead, Stuck, Ends}
 
 -- ---- numbers out of range
 
-pub outside_append : (o : ℕ) (ns ms : List Ranged) → outside_after o (ns ++ ms) ≡ outside_after (outside_after o ns) ms
+pub outside_append : (o : Option ℕ) (ns ms : List Ranged) → outside_after o (ns ++ ms) ≡ outside_after (outside_after o ns) ms
 unfolding outside_after
 outside_append o [] ms = refl
 outside_append o (n ∷ ns) ms = outside_append (keep_first o n) ns ms
 
-pub outside_one : (o : ℕ) (n : Ranged) → outside_after o (n ∷ []) ≡ keep_first o n
+pub outside_one : (o : Option ℕ) (n : Ranged) → outside_after o (n ∷ []) ≡ keep_first o n
 unfolding outside_after
 outside_one o n = refl
 
-pub outside_none : (o : ℕ) → outside_after o [] ≡ o
+pub outside_none : (o : Option ℕ) → outside_after o [] ≡ o
 unfolding outside_after
 outside_none o = refl
+
+-- ---- what a `?` returns
+
+-- the error that it passes on
+pub passed_on : {T E : Type 0} {r : Result T E} {e : E} → IsErrAnd r (λ y. y ≡ e) → r ≡ Err e
+passed_on {r} h = let p = err_from_is_err_and r h in p.1 ∙ ap Err p.2
+
+-- that of an absent value
+pub absent : {A E : Type 0} (v : Option A) {e d : E} → ◌≡◌ {A = Result A E} (Err d) (ok_or v e) → (v ≡ None) × (d ≡ e)
+absent None h = (refl, (cc))
+absent (Some x) h = absurd (cc)
+
+pub not_some : {A : Type 0} (v : Option A) → is_some v ≡ false → v ≡ None
+not_some None h = refl
+not_some (Some x) h = absurd (cc)
+
+-- ---- how often a number repeats an item, once where there is none
+
+pub times_at : (at : ℕ) (v : Option ℕ) → times (number_at at v) ≡ unwrap_or v 1
+times_at at None = refl
+times_at at (Some v) = refl
+
+pub times_few : {s : List ℕ} {at next : ℕ} {v : Option ℕ} → NumberFound s at v next → unwrap_or v 1 < 1000
+times_few {v = None} f = omega arith
+times_few {v = Some v} f = f.small
 
 -- ---- the byte after a number
 
@@ -41,36 +68,35 @@ pub pick_same : (t : Bool) (a : State) → pick t a a ≡ a
 pick_same true a = refl
 pick_same false a = refl
 
-module _ {s : List ℕ} {from v at : ℕ} (f : NumberFound s from v at) (u : Use) where
+module _ {s : List ℕ} {from at : ℕ} {v : Option ℕ} (f : NumberFound s from v at) (u : Use) where
   -- the text ends after it
   pub number_last : length s ≤ at → Stuck s from (Mode.digits u from 0) at
   number_last h l xs q = f.runs u l xs q ∙ read_end s at _ h
 
-  module _ (n : Repeat) (e : written from at v ≡ n) where
-    after : (l : ℕ) (xs : Items) (q : Open) → at < length s → step at (State.within (Mode.digits u from v) l xs q) (get_or s at 0) ≡ used u n at l xs q (get_or s at 0)
-    after l xs q h = step_used u from v at l xs q (get_or s at 0) (f.stops h) ∙ ap (λ (k : Repeat). used u k at l xs q (get_or s at 0)) e
+  after : (l : ℕ) (xs : Items) (q : Open) → at < length s → step at (State.within (Mode.digits u from (unwrap_or v 0)) l xs q) (get_or s at 0) ≡ used u (number_at from v) at l xs q (get_or s at 0)
+  after l xs q h = step_used u from (unwrap_or v 0) at l xs q (get_or s at 0) (f.stops h) ∙ ap (λ (k : Repeat). used u k at l xs q (get_or s at 0)) f.number_is
 
-    -- it ends an item
-    pub number_ends : (x : Items) → ((l : ℕ) (xs : Items) (q : Open) (b : ℕ) → used u n at l xs q b ≡ separated at l (join xs x) q b)
-        → (l : ℕ) (xs : Items) (q : Open) → read_at s from (State.within (Mode.digits u from 0) l xs q) ≡ read_at s at (State.within Mode.after l (join xs x) q)
-    unfolding step step_within
-    number_ends x g l xs q = f.runs u l xs q ∙ read_same s at _ (State.within Mode.after l (join xs x) q) (λ h. after l xs q h ∙ g l xs q (get_or s at 0)) refl
+  -- it ends an item
+  pub number_ends : (x : Items) → ((l : ℕ) (xs : Items) (q : Open) (b : ℕ) → used u (number_at from v) at l xs q b ≡ separated at l (join xs x) q b)
+      → (l : ℕ) (xs : Items) (q : Open) → read_at s from (State.within (Mode.digits u from 0) l xs q) ≡ read_at s at (State.within Mode.after l (join xs x) q)
+  unfolding step step_within
+  number_ends x g l xs q = f.runs u l xs q ∙ read_same s at _ (State.within Mode.after l (join xs x) q) (λ h. after l xs q h ∙ g l xs q (get_or s at 0)) refl
 
-    -- no item goes on after it
-    pub number_stuck_at : (l : ℕ) (xs : Items) (q : Open) → used u n at l xs q (get_or s at 0) ≡ State.dead → read_at s from (State.within (Mode.digits u from 0) l xs q) ≡ Reading.wrong at
-    number_stuck_at l xs q g = f.runs u l xs q ∙ read_stuck s at _ (λ h. after l xs q h ∙ g) refl
+  -- no item goes on after it
+  pub number_stuck_at : (l : ℕ) (xs : Items) (q : Open) → used u (number_at from v) at l xs q (get_or s at 0) ≡ State.dead → read_at s from (State.within (Mode.digits u from 0) l xs q) ≡ Reading.wrong at
+  number_stuck_at l xs q g = f.runs u l xs q ∙ read_stuck s at _ (λ h. after l xs q h ∙ g) refl
 
-    pub number_stuck : ((l : ℕ) (xs : Items) (q : Open) → used u n at l xs q (get_or s at 0) ≡ State.dead) → Stuck s from (Mode.digits u from 0) at
-    number_stuck g l xs q = number_stuck_at l xs q (g l xs q)
+  pub number_stuck : ((l : ℕ) (xs : Items) (q : Open) → used u (number_at from v) at l xs q (get_or s at 0) ≡ State.dead) → Stuck s from (Mode.digits u from 0) at
+  number_stuck g l xs q = number_stuck_at l xs q (g l xs q)
 
-    -- the byte after it goes on
-    pub number_on_at : at < length s → (l : ℕ) (xs : Items) (q : Open) (to : State) → used u n at l xs q (get_or s at 0) ≡ to → ((a b : Reading) → unless_dead to a b ≡ b)
-        → read_at s from (State.within (Mode.digits u from 0) l xs q) ≡ read_at s (at + 1) to
-    number_on_at h l xs q to g live = f.runs u l xs q ∙ read_step s at _ to h (after l xs q h ∙ g) live
+  -- the byte after it goes on
+  pub number_on_at : at < length s → (l : ℕ) (xs : Items) (q : Open) (to : State) → used u (number_at from v) at l xs q (get_or s at 0) ≡ to → ((a b : Reading) → unless_dead to a b ≡ b)
+      → read_at s from (State.within (Mode.digits u from 0) l xs q) ≡ read_at s (at + 1) to
+  number_on_at h l xs q to g live = f.runs u l xs q ∙ read_step s at _ to h (after l xs q h ∙ g) live
 
-    pub number_on : at < length s → (to : ℕ → Items → Open → State) → ((l : ℕ) (xs : Items) (q : Open) → used u n at l xs q (get_or s at 0) ≡ to l xs q) → ((l : ℕ) (xs : Items) (q : Open) (a b : Reading) → unless_dead (to l xs q) a b ≡ b)
-        → (l : ℕ) (xs : Items) (q : Open) → read_at s from (State.within (Mode.digits u from 0) l xs q) ≡ read_at s (at + 1) (to l xs q)
-    number_on h to g live l xs q = number_on_at h l xs q (to l xs q) (g l xs q) (live l xs q)
+  pub number_on : at < length s → (to : ℕ → Items → Open → State) → ((l : ℕ) (xs : Items) (q : Open) → used u (number_at from v) at l xs q (get_or s at 0) ≡ to l xs q) → ((l : ℕ) (xs : Items) (q : Open) (a b : Reading) → unless_dead (to l xs q) a b ≡ b)
+      → (l : ℕ) (xs : Items) (q : Open) → read_at s from (State.within (Mode.digits u from 0) l xs q) ≡ read_at s (at + 1) (to l xs q)
+  number_on h to g live l xs q = number_on_at h l xs q (to l xs q) (g l xs q) (live l xs q)
 
 -- ---- words of items
 
@@ -82,20 +108,20 @@ plain_word k v = simp zero-add
 
 -- ---- I, L and T: one number
 
-module _ {s : List ℕ} {at v next : ℕ} (f : NumberFound s at v next) {u : Use} {k : Repeat} {kind high : ℕ} (e : Ends u k kind high) where
-  pub one_missing : next ≡ at → Stuck s at (Mode.digits u at 0) at
-  one_missing z = subst (λ (p : ℕ). Stuck s at (Mode.digits u at 0) p) z (number_stuck f u Repeat.absent (written_absent at next v z) (λ l xs q. e.needed next l xs q (get_or s next 0)))
+module _ {s : List ℕ} {at next : ℕ} {u : Use} {k : Repeat} {kind high : ℕ} (e : Ends u k kind high) where
+  pub one_missing : NumberFound s at None next → Stuck s at (Mode.digits u at 0) next
+  one_missing f = number_stuck f u (λ l xs q. e.needed next l xs q (get_or s next 0))
 
-  pub one_read : (next ≡ at → ⊥) → kind < kind_literal → (r : ℕ) → times k ≡ r → r < 1000 → (o o' : ℕ) → o' ≡ keep_first o (ranged (number at v) 1 high)
+  pub one_read : {v : ℕ} → NumberFound s at (Some v) next → kind < kind_literal → (r : ℕ) → times k ≡ r → r < 1000 → (o o' : Option ℕ) → o' ≡ keep_first o (ranged (number at v) 1 high)
       → ItemRead s at (Mode.digits u at 0) (repeat_numbers k) at o (v * kind_base + kind) r next o'
-  one_read z low r rep few o o' out =
+  one_read {v} f low r rep few o o' out =
       let n = number at v in
       record {
         item = e.item n;
         met = e.met n;
         late = ranged n 1 high ∷ [];
         first = subst (λ (m : ℕ). First (e.item n) m (e.met n) Items.none) rep (e.first n);
-        runs = number_ends f u (Repeat.given n) (written_given at next v z) (e.item n) (λ l xs q b. e.enough n next l xs q b);
+        runs = number_ends f u (e.item n) (λ l xs q b. e.enough n next l xs q b);
         means = λ t. subst (λ (w : ℕ). met_of t w ≡ e.met n) (plain_word kind v) (e.means t n (omega (arith, f.small)));
         kind = rw (kind_of_lem v kind (omega arith)) low;
         numbers_are = e.numbers_are n;
@@ -144,16 +170,16 @@ ends-T =
 
 -- ---- A: a number or none
 
-module _ {s : List ℕ} {at v next : ℕ} (f : NumberFound s at v next) (k : Repeat) (r : ℕ) (rep : times k ≡ r) (few : r < 1000) (o : ℕ) where
-  pub text_alone : next ≡ at → ItemRead s at (Mode.digits (Use.width_a k) at 0) (repeat_numbers k) at o 3 r next o
+module _ {s : List ℕ} {at next : ℕ} (k : Repeat) (r : ℕ) (rep : times k ≡ r) (few : r < 1000) (o : Option ℕ) where
+  pub text_alone : NumberFound s at None next → ItemRead s at (Mode.digits (Use.width_a k) at 0) (repeat_numbers k) at o 3 r next o
   unfolding numbers
-  text_alone z =
+  text_alone f =
       record {
         item = Items.field k Field.A Items.none;
         met = Met.field Field.A;
         late = [];
         first = subst (λ (m : ℕ). First (Items.field k Field.A Items.none) m (Met.field Field.A) Items.none) rep First.field;
-        runs = number_ends f (Use.width_a k) Repeat.absent (written_absent at next v z) (Items.field k Field.A Items.none) (λ l xs q b. refl);
+        runs = number_ends f (Use.width_a k) (Items.field k Field.A Items.none) (λ l xs q b. refl);
         means = λ t. met-A t;
         kind = omega arith;
         numbers_are = append-nil (repeat_numbers k ++ []);
@@ -164,16 +190,16 @@ module _ {s : List ℕ} {at v next : ℕ} (f : NumberFound s at v next) (k : Rep
         high = f.high;
       }
 
-  pub text_wide : (next ≡ at → ⊥) → (o' : ℕ) → o' ≡ keep_first o (ranged (number at v) 1 64) → ItemRead s at (Mode.digits (Use.width_a k) at 0) (repeat_numbers k) at o (v * kind_base + kind_aw) r next o'
+  pub text_wide : {v : ℕ} → NumberFound s at (Some v) next → (o' : Option ℕ) → o' ≡ keep_first o (ranged (number at v) 1 64) → ItemRead s at (Mode.digits (Use.width_a k) at 0) (repeat_numbers k) at o (v * kind_base + kind_aw) r next o'
   unfolding numbers
-  text_wide z o' out =
+  text_wide {v} f o' out =
       let n = number at v in
       record {
         item = Items.field k (Field.Aw n) Items.none;
         met = Met.field (Field.Aw v);
         late = ranged n 1 64 ∷ [];
         first = subst (λ (m : ℕ). First (Items.field k (Field.Aw n) Items.none) m (Met.field (Field.Aw v)) Items.none) rep First.field;
-        runs = number_ends f (Use.width_a k) (Repeat.given n) (written_given at next v z) (Items.field k (Field.Aw n) Items.none) (λ l xs q b. refl);
+        runs = number_ends f (Use.width_a k) (Items.field k (Field.Aw n) Items.none) (λ l xs q b. refl);
         means = λ t. subst (λ (w : ℕ). met_of t w ≡ Met.field (Field.Aw v)) (plain_word kind_aw v) (met-Aw t v (omega (arith, f.small)));
         kind = omega arith;
         numbers_are = append-nil (repeat_numbers k ++ ranged n 1 64 ∷ []);
@@ -186,49 +212,43 @@ module _ {s : List ℕ} {at v next : ℕ} (f : NumberFound s at v next) (k : Rep
 
 -- ---- F: a number, a point, a number
 
-module _ {s : List ℕ} {at w point : ℕ} (f : NumberFound s at w point) (k : Repeat) where
-  pub decimal_missing : point ≡ at → Stuck s at (Mode.digits (Use.width_f k) at 0) at
-  decimal_missing z =
-      subst (λ (p : ℕ). Stuck s at (Mode.digits (Use.width_f k) at 0) p) z
-      (number_stuck f (Use.width_f k) Repeat.absent (written_absent at point w z) (λ l xs q. pick_same (eqb (get_or s point 0) 46) State.dead))
+pub decimal_missing : {s : List ℕ} {at point : ℕ} → NumberFound s at None point → (k : Repeat) → Stuck s at (Mode.digits (Use.width_f k) at 0) point
+decimal_missing {s} {at} {point} f k = number_stuck f (Use.width_f k) (λ l xs q. pick_same (eqb (get_or s point 0) 46) State.dead)
 
-  module _ (z : point ≡ at → ⊥) where
-    pub decimal_no_point : (get_or s point 0 ≡ 46 → ⊥) → Stuck s at (Mode.digits (Use.width_f k) at 0) point
-    decimal_no_point d = number_stuck f (Use.width_f k) (Repeat.given (number at w)) (written_given at point w z) (λ l xs q. simp (ne_eqb (get_or s point 0) 46 d))
+module _ {s : List ℕ} {at w point : ℕ} (f : NumberFound s at (Some w) point) (k : Repeat) where
+  pub decimal_no_point : (point < length s → get_or s point 0 ≡ 46 → ⊥) → Stuck s at (Mode.digits (Use.width_f k) at 0) point
+  decimal_no_point d l xs q = f.runs (Use.width_f k) l xs q ∙ read_stuck s point _ (λ h. after f (Use.width_f k) l xs q h ∙ simp (ne_eqb (get_or s point 0) 46 (d h))) refl
 
-    module _ (h : point < length s) (e : get_or s point 0 ≡ 46) where
-      pub decimal_on : (l : ℕ) (xs : Items) (q : Open)
-          → read_at s at (State.within (Mode.digits (Use.width_f k) at 0) l xs q) ≡ read_at s (point + 1) (State.within (Mode.digits (Use.places k (number at w)) (point + 1) 0) l xs q)
-      decimal_on =
-          number_on f (Use.width_f k) (Repeat.given (number at w)) (written_given at point w z) h (λ l xs q. State.within (Mode.digits (Use.places k (number at w)) (point + 1) 0) l xs q)
-          (λ l xs q. simp (eq-eqb (get_or s point 0) 46 e)) (λ l xs q a b. refl)
+  module _ (h : point < length s) (e : get_or s point 0 ≡ 46) where
+    pub decimal_on : (l : ℕ) (xs : Items) (q : Open)
+        → read_at s at (State.within (Mode.digits (Use.width_f k) at 0) l xs q) ≡ read_at s (point + 1) (State.within (Mode.digits (Use.places k (number at w)) (point + 1) 0) l xs q)
+    decimal_on =
+        number_on f (Use.width_f k) h (λ l xs q. State.within (Mode.digits (Use.places k (number at w)) (point + 1) 0) l xs q)
+        (λ l xs q. simp (eq-eqb (get_or s point 0) 46 e)) (λ l xs q a b. refl)
 
-      module _ {d next : ℕ} (g : NumberFound s (point + 1) d next) where
-        pub decimal_no_places : next ≡ point + 1 → Stuck s at (Mode.digits (Use.width_f k) at 0) (point + 1)
-        decimal_no_places y l xs q =
-            decimal_on l xs q
-            ∙ subst (λ (p : ℕ). Stuck s (point + 1) (Mode.digits (Use.places k (number at w)) (point + 1) 0) p) y
-            (number_stuck g (Use.places k (number at w)) Repeat.absent (written_absent (point + 1) next d y) (λ l xs q. refl)) l xs q
+    module _ {next : ℕ} where
+      pub decimal_no_places : NumberFound s (point + 1) None next → Stuck s at (Mode.digits (Use.width_f k) at 0) next
+      decimal_no_places g l xs q = decimal_on l xs q ∙ number_stuck g (Use.places k (number at w)) (λ l xs q. refl) l xs q
 
-        pub decimal_read : (next ≡ point + 1 → ⊥) → (r : ℕ) → times k ≡ r → r < 1000 → (o o₁ o₂ : ℕ) → o₁ ≡ keep_first o (ranged (number at w) 1 64) → o₂ ≡ keep_first o₁ (ranged (number (point + 1) d) 0 9)
-            → ItemRead s at (Mode.digits (Use.width_f k) at 0) (repeat_numbers k) at o ((d * first_base + w) * kind_base + kind_f) r next o₂
-        unfolding numbers outside_after
-        decimal_read y r rep few o o₁ o₂ x₁ x₂ =
-            let m = number at w in
-            let n = number (point + 1) d in
-            let item = Items.field k (Field.F m n) Items.none in
-            record {
-              item = item;
-              met = Met.field (Field.F w d);
-              late = ranged m 1 64 ∷ ranged n 0 9 ∷ [];
-              first = subst (λ (j : ℕ). First (Items.field k (Field.F m n) Items.none) j (Met.field (Field.F w d)) Items.none) rep First.field;
-              runs = λ l xs q. decimal_on l xs q ∙ number_ends g (Use.places k m) (Repeat.given n) (written_given (point + 1) next d y) (Items.field k (Field.F m n) Items.none) (λ l xs q b. refl) l xs q;
-              means = λ t. met-F t w d (omega (arith, f.small));
-              kind = omega arith;
-              numbers_are = append-nil (repeat_numbers k ++ ranged m 1 64 ∷ ranged n 0 9 ∷ []);
-              outside_is = x₂ ∙ ap (λ (z : ℕ). keep_first z (ranged n 0 9)) x₁;
-              low_word = omega (arith, f.small, g.small);
-              few = few;
-              more = omega (arith, f.low, g.low);
-              high = g.high;
-            }
+      pub decimal_read : {d : ℕ} → NumberFound s (point + 1) (Some d) next → (r : ℕ) → times k ≡ r → r < 1000 → (o o₁ o₂ : Option ℕ) → o₁ ≡ keep_first o (ranged (number at w) 1 64) → o₂ ≡ keep_first o₁ (ranged (number (point + 1) d) 0 9)
+          → ItemRead s at (Mode.digits (Use.width_f k) at 0) (repeat_numbers k) at o ((d * first_base + w) * kind_base + kind_f) r next o₂
+      unfolding numbers outside_after
+      decimal_read {d} g r rep few o o₁ o₂ x₁ x₂ =
+          let m = number at w in
+          let n = number (point + 1) d in
+          let item = Items.field k (Field.F m n) Items.none in
+          record {
+            item = item;
+            met = Met.field (Field.F w d);
+            late = ranged m 1 64 ∷ ranged n 0 9 ∷ [];
+            first = subst (λ (j : ℕ). First (Items.field k (Field.F m n) Items.none) j (Met.field (Field.F w d)) Items.none) rep First.field;
+            runs = λ l xs q. decimal_on l xs q ∙ number_ends g (Use.places k m) (Items.field k (Field.F m n) Items.none) (λ l xs q b. refl) l xs q;
+            means = λ t. met-F t w d (omega (arith, f.small));
+            kind = omega arith;
+            numbers_are = append-nil (repeat_numbers k ++ ranged m 1 64 ∷ ranged n 0 9 ∷ []);
+            outside_is = x₂ ∙ ap (λ (z : Option ℕ). keep_first z (ranged n 0 9)) x₁;
+            low_word = omega (arith, f.small, g.small);
+            few = few;
+            more = omega (arith, f.low, g.low);
+            high = g.high;
+          }

@@ -7,6 +7,7 @@ use Prim.Native.Nat.{ℕ, ◌+◌, ◌-◌, ◌<◌, ◌≤◌}
 use native.Mathlib.Omega.{arith}
 use lib.Dec.{eqb}
 use lib.ListN.{length, get_or, take, drop, set, length-set}
+use Rattle.std.specs.Prelude.{Option}
 use lib.Seq.{get_or-set_same, take-set-le, take-take, take-append-le, drop_at, length-take-le}
 use Rattle.format_items.specs.Items.{Items}
 use Rattle.format_items.specs.Ranges.{numbers}
@@ -38,7 +39,7 @@ one_held a n w {t} {b} {c} {r} {k} f h e s =
 
 -- ---- an item that is neither a group nor a literal
 
-pub took_single : {s : List ℕ} {l : ℕ} {p : Position} {a b : List ℕ} {w r next o : ℕ} → Room s p a → ItemRead s p.at (wanted p.at) [] (p.at + 1) p.outside w r next o
+pub took_single : {s : List ℕ} {l : ℕ} {p : Position} {a b : List ℕ} {w r next : ℕ} {o : Option ℕ} → Room s p a → ItemRead s p.at (wanted p.at) [] (p.at + 1) p.outside w r next o
     → b ≡ set a p.entries (entry w r) → (t : List ℕ) → Took s l (wanted p.at) (State.within Mode.after) p a t (record { at = next; entries = p.entries + 1; chars = p.chars; outside = o }) b t
 took_single {l} {p} {a} {w} {r} room i e t =
     record {

@@ -3,44 +3,41 @@
 use mathlib.Core.Path.{◌≡◌, refl, ◌∙◌}
 use mathlib.Core.Bool.{Bool, true, false, cond}
 use mathlib.Core.List.{List, [], ◌∷◌}
-use Prim.Native.Nat.{ℕ, ◌+◌, ◌<◌, ◌≤◌}
+use Prim.Native.Nat.{ℕ, ◌<◌, ◌≤◌}
 use native.Mathlib.Omega.{arith}
 use borrow.Author.Tests.{ne_eqb}
 use lib.ListN.{length, get_or}
+use Rattle.std.specs.Prelude.{Some, None}
 use Rattle.format_items.specs.Items.{Items, join}
-use Rattle.format_items.specs.Ranges.{Ranged, outside, place, FirstOutside, first_outside, numbers}
+use Rattle.format_items.specs.Ranges.{Ranged, outside, place, first_outside, numbers}
 use Rattle.format_grammar.specs.Reading.{Open, State, Reading, step, wanted, close, read_at, reading}
-use Rattle.format_grammar.proofs.ReadLaws.{read_step, read_dead, read_end}
+use Rattle.format_grammar.proofs.ReadLaws.{read_step, read_dead, read_end, read_stuck}
 use Rattle.format_read.specs.Steps.{outside_after, Took}
-use Rattle.format_read.specs.Whole.{kept, ItemsRead}
+use Rattle.format_read.specs.Whole.{ItemsRead}
 use Rattle.format_read.specs.declared.Position.{Position}
 
 -- ---- the first number out of range
 
-outside_stays : (o : ℕ) (ns : List Ranged) → (o ≡ 0 → ⊥) → outside_after o ns ≡ o
+outside_stays : (p : ℕ) (ns : List Ranged) → outside_after (Some p) ns ≡ Some p
 unfolding outside_after
-outside_stays o [] h = refl
-outside_stays o (n ∷ ns) h = simp (ne_eqb o 0 h) (outside_stays o ns h)
+outside_stays p [] = refl
+outside_stays p (n ∷ ns) = outside_stays p ns
 
-outside_first : (ns : List Ranged) → outside_after 0 ns ≡ kept (first_outside ns)
+outside_first : (ns : List Ranged) → outside_after None ns ≡ first_outside ns
 unfolding outside_after first_outside
 outside_first [] = refl
 outside_first (n ∷ ns) = go (outside n) (outside_first ns)
   where
-    go : (b : Bool) → outside_after 0 ns ≡ kept (first_outside ns) → outside_after (cond b (place n + 1) 0) ns ≡ kept (cond b (FirstOutside.at (place n)) (first_outside ns))
-    go true rest = outside_stays (place n + 1) ns (λ e. omega arith)
+    go : (b : Bool) → outside_after None ns ≡ first_outside ns → outside_after (cond b (Some (place n)) None) ns ≡ cond b (Some (place n)) (first_outside ns)
+    go true rest = outside_stays (place n) ns
     go false rest = rest
 
 -- ---- the brackets
 
 module _ (s : List ℕ) where
-  pub whole_empty : length s ≤ 0 → reading s ≡ Reading.wrong 0
-  unfolding reading
-  whole_empty h = read_end s 0 State.begin h
-
-  pub whole_other : 0 < length s → (get_or s 0 0 ≡ 40 → ⊥) → reading s ≡ Reading.wrong 0
+  pub whole_other : (0 < length s → get_or s 0 0 ≡ 40 → ⊥) → reading s ≡ Reading.wrong 0
   unfolding reading step
-  whole_other h e = read_dead s 0 State.begin h (simp (ne_eqb (get_or s 0 0) 40 e))
+  whole_other e = read_stuck s 0 State.begin (λ h. simp (ne_eqb (get_or s 0 0) 40 (e h))) refl
 
   module _ (h : 0 < length s) (e : get_or s 0 0 ≡ 40) where
     pub whole_begun : reading s ≡ read_at s 1 (State.within (wanted 1) 4 Items.none Open.format)
@@ -50,7 +47,7 @@ module _ (s : List ℕ) where
     pub whole_wrong : {x : ℕ} → ((xs : Items) (q : Open) → read_at s 1 (State.within (wanted 1) 4 xs q) ≡ Reading.wrong x) → reading s ≡ Reading.wrong x
     whole_wrong w = whole_begun ∙ w Items.none Open.format
 
-    module _ {p : Position} {a t b u : List ℕ} (k : Took s 4 (wanted 1) close (record { at = 1; entries = 0; chars = 0; outside = 0 }) a t p b u) where
+    module _ {p : Position} {a t b u : List ℕ} (k : Took s 4 (wanted 1) close (record { at = 1; entries = 0; chars = 0; outside = None }) a t p b u) where
       pub whole_more : p.at < length s → reading s ≡ Reading.wrong p.at
       unfolding join step
       whole_more g = whole_begun ∙ k.runs Items.none Open.format ∙ read_dead s p.at (State.end k.items) g refl

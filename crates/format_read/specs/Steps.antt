@@ -1,40 +1,44 @@
 -- What the readers of a format find, as steps of the reading of its text. Contracts of this crate cite it, no promise does.
 -- Assumes nothing.
-use Rattle.std.specs.Prelude.{◌≡◌, false, ◌&&◌, cond, List, [], ◌∷◌, ◌++◌, ℕ, ◌+◌, ◌-◌, ◌<◌, ◌≤◌, ltb, eqb, length, get_or, take}
+use Rattle.std.specs.Prelude.{◌≡◌, false, ◌&&◌, cond, List, [], ◌∷◌, ◌++◌, ℕ, ◌+◌, ◌-◌, ◌<◌, ◌≤◌, ltb, length, get_or, take, Option, Some, None, unwrap_or, Result, Ok, Err}
 use Rattle.number.specs.Digits.{is_digit}
 use Rattle.format_grammar.specs.Characters.{opening_bracket, apostrophe, quotation_mark}
-use Rattle.buffer.specs.Characters.{letter_i, letter_f, letter_l, letter_a}
-use Rattle.format_items.specs.Items.{Number, value_of, Repeat, times, Items, join}
+use Rattle.format_items.specs.Items.{Number, number, value_of, Repeat, absent, given, times, Items, join}
 use Rattle.format_items.specs.Ranges.{Ranged, ranged, outside, place, repeat_numbers, numbers}
 use Rattle.format_items.specs.Met.{Met}
-use Rattle.format_grammar.specs.Reading.{Use, Mode, Open, State, Reading, wanted, separated, used, read_at}
+use Rattle.format_grammar.specs.Reading.{Use, Mode, Open, State, Reading, wanted, written, separated, used, read_at}
 use Rattle.format_words.specs.Words.{word, word_bound, kind_of, met_of, kind_literal}
 use Rattle.format_words.specs.Held.{First, Holds}
 use Rattle.format_read.specs.declared.Position.{Position}
+use Rattle.format_read.specs.declared.Ungrammatical.{Ungrammatical}
 use Rattle.format_read.specs.declared.Single.{Single}
-use Rattle.format_read.specs.declared.Single.TheVariants as single
 use Rattle.format_read.specs.declared.Literal.{Literal}
-use Rattle.format_read.specs.declared.Literal.TheVariants as literal
 use Rattle.format_read.specs.declared.Head.{Head}
 use Rattle.format_read.specs.declared.Head.TheVariants as head
-use Rattle.format_read.specs.declared.Answer.{Answer}
-use Rattle.format_read.specs.declared.Answer.TheVariants as answer
 
 -- ---- numbers
 
--- the digits from `at` up to `next`, three at most and no more to be had, make the value
-pub record NumberFound (s : List ℕ) (at value next : ℕ) : Type 0 where
-  pub runs : (u : Use) (l : ℕ) (xs : Items) (q : Open) → read_at s at (State.within (Mode.digits u at 0) l xs q) ≡ read_at s next (State.within (Mode.digits u at value) l xs q)
+-- the number that begins at an offset, if its value was found
+abbrev pub number_at : ℕ → Option ℕ → Repeat
+number_at at None = absent
+number_at at (Some v) = given (number at v)
+
+-- the digits from `at` up to `next`, three at most and no more to be had, make the value; none where there is no digit
+pub record NumberFound (s : List ℕ) (at : ℕ) (value : Option ℕ) (next : ℕ) : Type 0 where
+  pub runs : (u : Use) (l : ℕ) (xs : Items) (q : Open) → read_at s at (State.within (Mode.digits u at 0) l xs q) ≡ read_at s next (State.within (Mode.digits u at (unwrap_or value 0)) l xs q)
   pub stops : next < length s → (ltb next (at + 3) && is_digit (get_or s next 0)) ≡ false
-  pub small : value < 1000
+  pub number_is : written at next (unwrap_or value 0) ≡ number_at at value
+  pub empty : value ≡ None → next ≡ at
+  pub small : unwrap_or value 0 < 1000
   pub low : at ≤ next
   pub high : next ≤ length s
 
--- the first number out of range: its offset plus one, or 0 for none; after one number more, and after more numbers
-abbrev pub keep_first : ℕ → Ranged → ℕ
-keep_first o n = cond (eqb o 0) (cond (outside n) (place n + 1) 0) o
+-- the offset of the first number out of range, if there is one: after one number more, and after more numbers
+abbrev pub keep_first : Option ℕ → Ranged → Option ℕ
+keep_first (Some p) n = Some p
+keep_first None n = cond (outside n) (Some (place n)) None
 
-unfoldable pub outside_after : ℕ → List Ranged → ℕ
+unfoldable pub outside_after : Option ℕ → List Ranged → Option ℕ
 outside_after o [] = o
 outside_after o (n ∷ ns) = outside_after (keep_first o n) ns
 
@@ -42,7 +46,7 @@ outside_after o (n ∷ ns) = outside_after (keep_first o n) ns
 
 -- from the mode m at a, an item was read up to `next`, which is not before `least`; its numbers but for ns, which come
 -- first, were looked at
-pub record ItemRead (s : List ℕ) (a : ℕ) (m : Mode) (ns : List Ranged) (least o : ℕ) (w r next o' : ℕ) : Type 0 where
+pub record ItemRead (s : List ℕ) (a : ℕ) (m : Mode) (ns : List Ranged) (least : ℕ) (o : Option ℕ) (w r next : ℕ) (o' : Option ℕ) : Type 0 where
   pub item : Items
   pub met : Met
   pub late : List Ranged
@@ -62,12 +66,12 @@ abbrev pub Stuck : List ℕ → ℕ → Mode → ℕ → Type 0
 Stuck s a m p = (l : ℕ) (xs : Items) (q : Open) → read_at s a (State.within m l xs q) ≡ Reading.wrong p
 
 -- an item, or none
-abbrev pub item_read : List ℕ → ℕ → Mode → List Ranged → ℕ → ℕ → Single → Type 0
-item_read s a m ns least o (single.Word w r next o') = ItemRead s a m ns least o w r next o'
-item_read s a m ns least o (single.Wrong p) = Stuck s a m p
+abbrev pub item_read : List ℕ → ℕ → Mode → List Ranged → ℕ → Option ℕ → Result Single Ungrammatical → Type 0
+item_read s a m ns least o (Ok x) = ItemRead s a m ns least o x.word x.repeat x.next x.outside
+item_read s a m ns least o (Err e) = Stuck s a m e.place
 
 -- an item that begins before `at` and ends with what a letter, whose use is u, asks for
-abbrev pub ended : List ℕ → ℕ → Use → Repeat → ℕ → Single → Type 0
+abbrev pub ended : List ℕ → ℕ → Use → Repeat → Option ℕ → Result Single Ungrammatical → Type 0
 ended s at u k o x = item_read s at (Mode.digits u at 0) (repeat_numbers k) at o x
 
 -- one number, from 1 to `high`, ends an item of this kind whose repeat is k
@@ -80,17 +84,11 @@ pub record Ends (u : Use) (k : Repeat) (kind high : ℕ) : Type 0 where
   pub means : (t : List ℕ) (n : Number) → value_of n < 1024 → met_of t (word kind (value_of n) 0) ≡ met n
   pub numbers_are : (n : Number) → numbers (item n) ≡ repeat_numbers k ++ ranged n 1 high ∷ []
 
--- a byte that begins neither a group nor a literal, and one that begins no field
+-- a byte that begins neither a group nor a literal
 pub record NoBracketOrMark (b : ℕ) : Type 0 where
   pub no_bracket : b ≡ opening_bracket → ⊥
   pub no_apostrophe : b ≡ apostrophe → ⊥
   pub no_quotation_mark : b ≡ quotation_mark → ⊥
-
-pub record NoFieldLetter (b : ℕ) : Type 0 where
-  pub no-I : b ≡ letter_i → ⊥
-  pub no-F : b ≡ letter_f → ⊥
-  pub no-L : b ≡ letter_l → ⊥
-  pub no-A : b ≡ letter_a → ⊥
 
 -- ---- literals
 
@@ -105,9 +103,9 @@ pub record LiteralFound (s : List ℕ) (at m : ℕ) (t : List ℕ) (c : ℕ) (u 
   pub high : next ≤ length s
 
 -- a literal, or none
-abbrev pub literal_found : List ℕ → ℕ → ℕ → List ℕ → ℕ → List ℕ → Literal → Type 0
-literal_found s at m t c u (literal.Text next end) = LiteralFound s at m t c u next end
-literal_found s at m t c u (literal.Wrong p) = Stuck s at (Mode.inside m []) p
+abbrev pub literal_found : List ℕ → ℕ → ℕ → List ℕ → ℕ → List ℕ → Result Literal Ungrammatical → Type 0
+literal_found s at m t c u (Ok x) = LiteralFound s at m t c u x.next x.end
+literal_found s at m t c u (Err e) = Stuck s at (Mode.inside m []) e.place
 
 -- ---- items with their entries
 
@@ -139,9 +137,9 @@ abbrev pub NoItem : List ℕ → ℕ → ℕ → ℕ → Type 0
 NoItem s l at x = (xs : Items) (q : Open) → read_at s at (State.within (wanted at) l xs q) ≡ Reading.wrong x
 
 -- items, or none
-abbrev pub took : List ℕ → ℕ → (ℕ → Items → Open → State) → Position → List ℕ → List ℕ → List ℕ → List ℕ → Answer → Type 0
-took s l to p a t b u (answer.Read p') = Took s l (wanted p.at) to p a t p' b u
-took s l to p a t b u (answer.Wrong x) = NoItem s l p.at x
+abbrev pub took : List ℕ → ℕ → (ℕ → Items → Open → State) → Position → List ℕ → List ℕ → List ℕ → List ℕ → Result Position Ungrammatical → Type 0
+took s l to p a t b u (Ok p') = Took s l (wanted p.at) to p a t p' b u
+took s l to p a t b u (Err e) = NoItem s l p.at e.place
 
 -- a group opens, with the repeat k of r
 pub record Opened (s : List ℕ) (l : ℕ) (p inside : Position) (r : ℕ) (a t b u : List ℕ) : Type 0 where
@@ -159,7 +157,7 @@ pub record Opened (s : List ℕ) (l : ℕ) (p inside : Position) (r : ℕ) (a t 
   pub high : inside.at ≤ length s
 
 -- an item, the opening of a group, or neither
-abbrev pub headed : List ℕ → ℕ → Position → List ℕ → List ℕ → List ℕ → List ℕ → Head → Type 0
-headed s l p a t b u (head.Whole p') = Took s l (wanted p.at) (State.within Mode.after) p a t p' b u
-headed s l p a t b u (head.Group inside r) = Opened s l p inside r a t b u
-headed s l p a t b u (head.Wrong x) = NoItem s l p.at x
+abbrev pub headed : List ℕ → ℕ → Position → List ℕ → List ℕ → List ℕ → List ℕ → Result Head Ungrammatical → Type 0
+headed s l p a t b u (Ok (head.Whole p')) = Took s l (wanted p.at) (State.within Mode.after) p a t p' b u
+headed s l p a t b u (Ok (head.Group inside r)) = Opened s l p inside r a t b u
+headed s l p a t b u (Err e) = NoItem s l p.at e.place

@@ -9,19 +9,18 @@ pub fn read_number(text: &[u8], at: usize) -> Number
     requires { at ≤ length text.now }
     ensures { NumberFound text.now at result.value result.next }
 {
-    let mut value: u64 = 0;
-    let mut i = at;
-    while i < text.len() {
-        if at + 3 <= i {
-            return Number { value, next: i };
+    let end = text.len().min(at + 3);
+    let mut value = 0;
+    let mut next = at;
+    for &b in &text[at..end] {
+        if !b.is_ascii_digit() {
+            break;
         }
-        let b = text[i];
-        if number::digits::is_digit(b) {
-            value = value * 10 + number::digits::wide(b - b'0');
-            i += 1;
-        } else {
-            return Number { value, next: i };
-        }
+        value = value * 10 + u64::from(b - b'0');
+        next += 1;
     }
-    Number { value, next: i }
+    Number {
+        value: (at < next).then_some(value),
+        next,
+    }
 }

@@ -1,13 +1,15 @@
 // The beginning of an item.
 ghost use Rattle.std.specs.Prelude.{◌≡◌, true, ◌||◌, List, ℕ, ◌<◌, ◌≤◌, eqb, length, get_or};
 ghost use Rattle.format_grammar.specs.Characters.{apostrophe, quotation_mark};
-ghost use Rattle.format_read.specs.Steps.{NumberFound, NoBracketOrMark, Room, headed};
+ghost use Rattle.format_grammar.specs.Reading.{Mode, State};
+ghost use Rattle.format_read.specs.Steps.{NumberFound, NoBracketOrMark, Room, took, headed};
 
 use crate::digits::read_number;
 use crate::entry::put_entry;
 use crate::literals::read_literal;
-use crate::singles::{outside_of, read_single, repeat_of};
-use crate::{Head, Literal, Position, Single};
+use crate::range::outside_of;
+use crate::singles::read_single;
+use crate::{Head, Number, Position, Ungrammatical};
 use format_words::{FIRST_BASE, KIND_BASE, KIND_LITERAL};
 
 // An apostrophe or a quotation mark.
@@ -18,59 +20,47 @@ fn is_mark(b: u8) -> bool
 }
 
 // A literal, with its entry; its opening mark m stands at p.at.
-fn read_literal_item(text: &[u8], p: Position, m: u8, entries: &mut [u64], chars: &mut [u8]) -> Head
+fn read_literal_item(
+    text: &[u8],
+    p: Position,
+    m: u8,
+    entries: &mut [u64],
+    chars: &mut [u8],
+) -> Result<Position, Ungrammatical>
     requires room { Room text.now p entries.old × (length text.now ≤ length chars.old) }
     requires at_in_bounds { (p.at < length text.now) × (get_or text.now p.at 0 ≡ m) × ((eqb m apostrophe || eqb m quotation_mark) ≡ true) }
-    ensures { (l : ℕ) → headed text.now l p entries.old chars.old entries.new chars.new result }
+    ensures { (l : ℕ) → took text.now l (State.within Mode.after) p entries.old chars.old entries.new chars.new result }
 {
-    let at = p.at;
-    let n = p.entries;
     let c = p.chars;
-    match read_literal(text, at + 1, m, chars, c) {
-        Literal::Wrong { place } => Head::Wrong { place },
-        Literal::Text { next, end } => {
-            put_entry(
-                entries,
-                n,
-                (((end - c) as u64) * FIRST_BASE + (c as u64)) * KIND_BASE + KIND_LITERAL,
-                1,
-            );
-            Head::Whole(Position {
-                at: next,
-                entries: n + 1,
-                chars: end,
-                outside: p.outside,
-            })
-        }
-    }
+    let literal = read_literal(text, p.at + 1, m, chars, c)?;
+    let end = literal.end;
+    put_entry(
+        entries,
+        p.entries,
+        (((end - c) as u64) * FIRST_BASE + (c as u64)) * KIND_BASE + KIND_LITERAL,
+        1,
+    );
+    Ok(Position {
+        chars: end,
+        ..p.with_entry(literal.next, p.outside)
+    })
 }
 
-// An item that is neither a group nor a literal, with its entry; digits from p.at up to `next` begin it.
-fn read_single_item(text: &[u8], p: Position, next: usize, value: u64, entries: &mut [u64]) -> Head
+// An item that is neither a group nor a literal, with its entry; the digits m begin it.
+fn read_single_item(
+    text: &[u8],
+    p: Position,
+    m: Number,
+    entries: &mut [u64],
+) -> Result<Position, Ungrammatical>
     requires room { Room text.now p entries.old }
-    requires number_found { NumberFound text.now p.at value next }
-    requires next_in_bounds { (next < length text.now) × NoBracketOrMark (get_or text.now next 0) }
-    ensures { (l : ℕ) (t : List ℕ) → headed text.now l p entries.old t entries.new t result }
+    requires number_found { NumberFound text.now p.at m.value m.next }
+    requires next_in_bounds { (m.next < length text.now) × NoBracketOrMark (get_or text.now m.next 0) }
+    ensures { (l : ℕ) (t : List ℕ) → took text.now l (State.within Mode.after) p entries.old t entries.new t result }
 {
-    let at = p.at;
-    let n = p.entries;
-    match read_single(text, at, next, value, p.outside) {
-        Single::Wrong { place } => Head::Wrong { place },
-        Single::Word {
-            word,
-            repeat,
-            next: after,
-            outside,
-        } => {
-            put_entry(entries, n, word, repeat);
-            Head::Whole(Position {
-                at: after,
-                entries: n + 1,
-                chars: p.chars,
-                outside,
-            })
-        }
-    }
+    let single = read_single(text, p, m)?;
+    put_entry(entries, p.entries, single.word, single.repeat);
+    Ok(p.with_entry(single.next, single.outside))
 }
 
 // An item, or a group up to its opening bracket, where `level` levels of groups may open.
@@ -80,38 +70,31 @@ pub fn read_head(
     level: usize,
     entries: &mut [u64],
     chars: &mut [u8],
-) -> Head
+) -> Result<Head, Ungrammatical>
     requires { Room text.now p entries.old × (length text.now ≤ length chars.old) }
     ensures { headed text.now level p entries.old chars.old entries.new chars.new result }
 {
-    let at = p.at;
-    let m = read_number(text, at);
-    let value = m.value;
+    let m = read_number(text, p.at);
     let next = m.next;
     if text.len() <= next {
-        return Head::Wrong { place: next };
+        return Err(Ungrammatical { place: next });
     }
     let b = text[next];
     if b == b'(' {
         if level == 0 {
-            return Head::Wrong { place: next };
+            return Err(Ungrammatical { place: next });
         }
-        let outside = outside_of(p.outside, at, next, value);
-        return Head::Group {
-            inside: Position {
-                at: next + 1,
-                entries: p.entries + 1,
-                chars: p.chars,
-                outside,
-            },
-            repeat: repeat_of(at, next, value),
-        };
+        let outside = outside_of(p.outside, p.at, m.value);
+        return Ok(Head::Group {
+            inside: p.with_entry(next + 1, outside),
+            repeat: m.value.unwrap_or(1),
+        });
     }
-    if is_mark(b) {
-        if at < next {
-            return Head::Wrong { place: next };
-        }
-        return read_literal_item(text, p, b, entries, chars);
+    if !is_mark(b) {
+        return Ok(Head::Whole(read_single_item(text, p, m, entries)?));
     }
-    read_single_item(text, p, next, value, entries)
+    if m.value.is_some() {
+        return Err(Ungrammatical { place: next });
+    }
+    Ok(Head::Whole(read_literal_item(text, p, b, entries, chars)?))
 }

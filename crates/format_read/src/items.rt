@@ -7,7 +7,7 @@ ghost use Rattle.format_read.specs.Steps.{Room, took};
 
 use crate::entry::put_entry;
 use crate::heads::read_head;
-use crate::{Answer, Head, Position};
+use crate::{Head, Position, Ungrammatical};
 use format_words::{KIND_BASE, KIND_GROUP};
 
 // The entry n of a group whose items' entries follow it up to `end`.
@@ -31,27 +31,17 @@ fn read_item(
     level: usize,
     entries: &mut [u64],
     chars: &mut [u8],
-) -> Answer
+) -> Result<Position, Ungrammatical>
     requires { Room text.now p entries.old × (length text.now ≤ length chars.old) }
     ensures { took text.now level (State.within Mode.after) p entries.old chars.old entries.new chars.new result }
 {
-    let n = p.entries;
-    match read_head(text, p, level, entries, chars) {
-        Head::Wrong { place } => Answer::Wrong { place },
-        Head::Whole(after) => Answer::Read(after),
-        Head::Group { inside, repeat } => match read_items(
-            text,
-            inside,
-            level - 1,
-            entries,
-            chars,
-        ) {
-            Answer::Wrong { place } => Answer::Wrong { place },
-            Answer::Read(after) => {
-                put_group(entries, n, after.entries, repeat);
-                Answer::Read(after)
-            }
-        },
+    match read_head(text, p, level, entries, chars)? {
+        Head::Whole(after) => Ok(after),
+        Head::Group { inside, repeat } => {
+            let after = read_items(text, inside, level - 1, entries, chars)?;
+            put_group(entries, p.entries, after.entries, repeat);
+            Ok(after)
+        }
     }
 }
 
@@ -63,34 +53,17 @@ pub fn read_items(
     level: usize,
     entries: &mut [u64],
     chars: &mut [u8],
-) -> Answer
+) -> Result<Position, Ungrammatical>
     requires { Room text.now start entries.old × (length text.now ≤ length chars.old) }
     ensures { took text.now level close start entries.old chars.old entries.new chars.new result }
 {
     let mut p = start;
     loop {
-        match read_item(text, p, level, entries, chars) {
-            Answer::Wrong { place } => return Answer::Wrong { place },
-            Answer::Read(after) => {
-                let next = after.at;
-                if text.len() <= next {
-                    return Answer::Wrong { place: next };
-                }
-                let b = text[next];
-                let on = Position {
-                    at: next + 1,
-                    entries: after.entries,
-                    chars: after.chars,
-                    outside: after.outside,
-                };
-                if b == b')' {
-                    return Answer::Read(on);
-                }
-                if b != b',' {
-                    return Answer::Wrong { place: next };
-                }
-                p = on;
-            }
+        let after = read_item(text, p, level, entries, chars)?;
+        match text.get(after.at) {
+            Some(b')') => return Ok(after.past()),
+            Some(b',') => p = after.past(),
+            _ => return Err(Ungrammatical { place: after.at }),
         }
     }
 }

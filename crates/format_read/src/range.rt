@@ -1,22 +1,34 @@
 // Ranges of numbers.
-ghost use Rattle.std.specs.Prelude.{◌≡◌, ◌<◌};
+ghost use Rattle.std.specs.Prelude.{◌≡◌};
 ghost use Rattle.format_items.specs.Items.{number};
-ghost use Rattle.format_items.specs.Ranges.{ranged};
-ghost use Rattle.format_read.specs.Steps.{keep_first};
+ghost use Rattle.format_items.specs.Ranges.{ranged, repeat_numbers};
+ghost use Rattle.format_read.specs.Steps.{number_at, keep_first, outside_after};
+
+use format_items::LARGEST_COUNT;
 
 // The first number out of range, after the number at `at` too.
-pub fn first_outside(outside: usize, at: usize, value: u64, low: u64, high: u64) -> usize
-    requires { at < 1024 }
+pub fn first_outside(
+    outside: Option<usize>,
+    at: usize,
+    value: u64,
+    low: u64,
+    high: u64,
+) -> Option<usize>
     ensures { result ≡ keep_first outside (ranged (number at value) low high) }
 {
-    if outside != 0 {
-        return outside;
+    if outside.is_none() && !(low..=high).contains(&value) {
+        Some(at)
+    } else {
+        outside
     }
-    if value < low {
-        return at + 1;
+}
+
+// The first number out of range, after the repeat or count at `at` too, if there is one.
+pub fn outside_of(outside: Option<usize>, at: usize, value: Option<u64>) -> Option<usize>
+    ensures { result ≡ outside_after outside (repeat_numbers (number_at at value)) }
+{
+    match value {
+        None => outside,
+        Some(value) => first_outside(outside, at, value, 1, LARGEST_COUNT),
     }
-    if high < value {
-        return at + 1;
-    }
-    0
 }

@@ -1,170 +1,125 @@
 // Items that are neither groups nor literals.
 ghost use Rattle.std.specs.Prelude.{◌≡◌, [], ◌+◌, ◌<◌, ◌≤◌, length, get_or};
 ghost use Rattle.format_items.specs.Items.{Repeat, times};
-ghost use Rattle.format_items.specs.Ranges.{repeat_numbers};
-ghost use Rattle.format_grammar.specs.Reading.{Use, written, wanted};
+ghost use Rattle.format_grammar.specs.Reading.{Use, wanted};
 ghost use Rattle.format_words.specs.Words.{kind_literal};
-ghost use Rattle.format_read.specs.Steps.{NumberFound, Ends, ended, item_read, NoBracketOrMark, NoFieldLetter, outside_after};
+ghost use Rattle.format_read.specs.Steps.{NumberFound, Ends, ended, item_read, NoBracketOrMark};
 
-use crate::Single;
 use crate::digits::read_number;
-use crate::range::first_outside;
+use crate::range::{first_outside, outside_of};
+use crate::{Number, Position, Single, Ungrammatical};
 use format_items::{LARGEST_COUNT, LARGEST_PLACES, LARGEST_WIDTH};
 use format_words::{
     FIRST_BASE, KIND_A, KIND_AW, KIND_BASE, KIND_F, KIND_I, KIND_L, KIND_SLASH, KIND_T, KIND_X,
 };
 
 // What I, L and T go on with: one number, from 1 to `high`.
-fn read_one(text: &[u8], at: usize, kind: u64, high: u64, repeat: u64, outside: usize) -> Single
+fn read_one(
+    text: &[u8],
+    at: usize,
+    kind: u64,
+    high: u64,
+    repeat: u64,
+    outside: Option<usize>,
+) -> Result<Single, Ungrammatical>
     requires { (at ≤ length text.now) × (length text.now ≤ 1024) × (kind < kind_literal) × (repeat < 1000) }
     ensures { (u : Use) (k : Repeat) → times k ≡ repeat → Ends u k kind high → ended text.now at u k outside result }
 {
     let m = read_number(text, at);
-    let value = m.value;
-    let next = m.next;
-    if next == at {
-        return Single::Wrong { place: at };
-    }
-    Single::Word {
+    let value = m.value.ok_or(Ungrammatical { place: m.next })?;
+    Ok(Single {
         word: value * KIND_BASE + kind,
         repeat,
-        next,
+        next: m.next,
         outside: first_outside(outside, at, value, 1, high),
-    }
+    })
 }
 
 // What A goes on with: a width, or nothing.
-fn read_a(text: &[u8], at: usize, repeat: u64, outside: usize) -> Single
+fn read_a(text: &[u8], at: usize, repeat: u64, outside: Option<usize>) -> Single
     requires { (at ≤ length text.now) × (length text.now ≤ 1024) × (repeat < 1000) }
-    ensures { (k : Repeat) → times k ≡ repeat → ended text.now at (Use.width_a k) k outside result }
+    ensures { (k : Repeat) → times k ≡ repeat → ended text.now at (Use.width_a k) k outside (Ok result) }
 {
     let m = read_number(text, at);
-    let value = m.value;
-    let next = m.next;
-    if next == at {
-        return Single::Word {
+    match m.value {
+        None => Single {
             word: KIND_A,
             repeat,
-            next,
+            next: m.next,
             outside,
-        };
-    }
-    Single::Word {
-        word: value * KIND_BASE + KIND_AW,
-        repeat,
-        next,
-        outside: first_outside(outside, at, value, 1, LARGEST_WIDTH),
+        },
+        Some(value) => Single {
+            word: value * KIND_BASE + KIND_AW,
+            repeat,
+            next: m.next,
+            outside: first_outside(outside, at, value, 1, LARGEST_WIDTH),
+        },
     }
 }
 
 // What F goes on with: a width, a point and the places.
-fn read_f(text: &[u8], at: usize, repeat: u64, outside: usize) -> Single
+fn read_f(
+    text: &[u8],
+    at: usize,
+    repeat: u64,
+    outside: Option<usize>,
+) -> Result<Single, Ungrammatical>
     requires { (at ≤ length text.now) × (length text.now ≤ 1024) × (repeat < 1000) }
     ensures { (k : Repeat) → times k ≡ repeat → ended text.now at (Use.width_f k) k outside result }
 {
     let m = read_number(text, at);
-    let w = m.value;
     let point = m.next;
-    if point == at {
-        return Single::Wrong { place: at };
-    }
-    if text.len() <= point {
-        return Single::Wrong { place: point };
-    }
-    if text[point] != b'.' {
-        return Single::Wrong { place: point };
+    let width = m.value.ok_or(Ungrammatical { place: point })?;
+    if text.get(point) != Some(&b'.') {
+        return Err(Ungrammatical { place: point });
     }
     let start = point + 1;
-    let o = first_outside(outside, at, w, 1, LARGEST_WIDTH);
-    let f = read_number(text, start);
-    let d = f.value;
-    let next = f.next;
-    if next == start {
-        return Single::Wrong { place: start };
-    }
-    Single::Word {
-        word: (d * FIRST_BASE + w) * KIND_BASE + KIND_F,
+    let n = read_number(text, start);
+    let places = n.value.ok_or(Ungrammatical { place: n.next })?;
+    let o = first_outside(outside, at, width, 1, LARGEST_WIDTH);
+    Ok(Single {
+        word: (places * FIRST_BASE + width) * KIND_BASE + KIND_F,
         repeat,
-        next,
-        outside: first_outside(o, start, d, 0, LARGEST_PLACES),
-    }
+        next: n.next,
+        outside: first_outside(o, start, places, 0, LARGEST_PLACES),
+    })
 }
 
-// The repeat that the digits from `from` up to `at` make: 1 where there is none.
-pub fn repeat_of(from: usize, at: usize, value: u64) -> u64
-    requires { value < 1000 }
-    ensures { (result ≡ times (written from at value)) × (result < 1000) }
+// The item, neither a group nor a literal, that begins at p with the digits m.
+pub fn read_single(text: &[u8], p: Position, m: Number) -> Result<Single, Ungrammatical>
+    requires number_found { NumberFound text.now p.at m.value m.next }
+    requires at_in_bounds { (m.next < length text.now) × (length text.now ≤ 1024) × NoBracketOrMark (get_or text.now m.next 0) }
+    ensures { item_read text.now p.at (wanted p.at) [] (p.at + 1) p.outside result }
 {
-    if at == from { 1 } else { value }
-}
-
-// The first number out of range, after the number between `from` and `at`, if there is one.
-pub fn outside_of(outside: usize, from: usize, at: usize, value: u64) -> usize
-    requires { from < 1024 }
-    ensures { result ≡ outside_after outside (repeat_numbers (written from at value)) }
-{
-    if at == from {
-        return outside;
-    }
-    first_outside(outside, from, value, 1, LARGEST_COUNT)
-}
-
-// What begins with T, X or a slash, or with a byte that begins no item; the digits from `from` up to `at` stand before it.
-fn read_move(text: &[u8], from: usize, at: usize, value: u64, outside: usize) -> Single
-    requires number_found { NumberFound text.now from value at }
-    requires at_in_bounds { (at < length text.now) × (length text.now ≤ 1024) × NoBracketOrMark (get_or text.now at 0) × NoFieldLetter (get_or text.now at 0) }
-    ensures { item_read text.now from (wanted from) [] (from + 1) outside result }
-{
-    let b = text[at];
-    let o = outside_of(outside, from, at, value);
-    if b == b'T' {
-        if from < at {
-            return Single::Wrong { place: at };
+    let at = m.next;
+    let repeat = m.value.unwrap_or(1);
+    let outside = outside_of(p.outside, p.at, m.value);
+    match text[at] {
+        b'I' => read_one(text, at + 1, KIND_I, LARGEST_WIDTH, repeat, outside),
+        b'F' => read_f(text, at + 1, repeat, outside),
+        b'L' => read_one(text, at + 1, KIND_L, LARGEST_WIDTH, repeat, outside),
+        b'A' => Ok(read_a(text, at + 1, repeat, outside)),
+        b'T' => {
+            if m.value.is_some() {
+                return Err(Ungrammatical { place: at });
+            }
+            read_one(text, at + 1, KIND_T, LARGEST_COUNT, 1, outside)
         }
-        return read_one(text, at + 1, KIND_T, LARGEST_COUNT, 1, o);
-    }
-    if b == b'X' {
-        if from == at {
-            return Single::Wrong { place: at };
+        b'X' => {
+            let count = m.value.ok_or(Ungrammatical { place: at })?;
+            Ok(Single {
+                word: count * KIND_BASE + KIND_X,
+                repeat: 1,
+                next: at + 1,
+                outside,
+            })
         }
-        return Single::Word {
-            word: value * KIND_BASE + KIND_X,
-            repeat: 1,
-            next: at + 1,
-            outside: o,
-        };
-    }
-    if b == b'/' {
-        return Single::Word {
+        b'/' => Ok(Single {
             word: KIND_SLASH,
-            repeat: repeat_of(from, at, value),
+            repeat,
             next: at + 1,
-            outside: o,
-        };
+            outside,
+        }),
+        _ => Err(Ungrammatical { place: at }),
     }
-    Single::Wrong { place: at }
-}
-
-// The item, neither a group nor a literal, that begins with the digits from `from` up to `at`.
-pub fn read_single(text: &[u8], from: usize, at: usize, value: u64, outside: usize) -> Single
-    requires number_found { NumberFound text.now from value at }
-    requires at_in_bounds { (at < length text.now) × (length text.now ≤ 1024) × NoBracketOrMark (get_or text.now at 0) }
-    ensures { item_read text.now from (wanted from) [] (from + 1) outside result }
-{
-    let b = text[at];
-    let r = repeat_of(from, at, value);
-    let o = outside_of(outside, from, at, value);
-    if b == b'I' {
-        return read_one(text, at + 1, KIND_I, LARGEST_WIDTH, r, o);
-    }
-    if b == b'F' {
-        return read_f(text, at + 1, r, o);
-    }
-    if b == b'L' {
-        return read_one(text, at + 1, KIND_L, LARGEST_WIDTH, r, o);
-    }
-    if b == b'A' {
-        return read_a(text, at + 1, r, o);
-    }
-    read_move(text, from, at, value, outside)
 }

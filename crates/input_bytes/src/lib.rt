@@ -1,4 +1,4 @@
-// What a program reads of its input, into a buffer of its own.
+// What `trimsheet` reads of its input, into a buffer of its own: it has fixed memory, so no `read_to_end` into a `Vec`.
 #![tactic(auto)]
 
 ghost use Rattle.std.specs.Prelude.{◌≡◌, ◌≤◌, length, take, IfOk, IfSome};

@@ -1,12 +1,11 @@
 // A list taken apart into slices of numbers.
 ghost use Rattle.std.specs.Prelude.{◌≡◌, Bool, cond, ◌+◌, ◌*◌, ◌≤◌, min, pos, length, take};
 ghost use Rattle.list_elements.specs.Elements.{values};
-ghost use Rattle.list_elements.specs.Limits.{most_elements, longest_text, list_check};
+ghost use Rattle.list_elements.specs.Limits.{most_elements, longest_text, good, list_check};
 ghost use Rattle.list_elements.specs.Apart.{kind_number, amount, detail, Apart, usable_count, SomeGood, text_kind, length_base};
 
-use crate::limits::within_limits;
 use crate::{
-    KIND_DECIMAL, KIND_INTEGER, KIND_LOGICAL, KIND_TEXT, LENGTH_BASE, List, ListCheck, Value,
+    BadElement, KIND_DECIMAL, KIND_INTEGER, KIND_LOGICAL, KIND_TEXT, LENGTH_BASE, List, Value,
 };
 
 // A text's length is within its limits, so that the number is small.
@@ -26,7 +25,7 @@ pub fn kind_number(v: Value) -> u64
 pub fn one_if(b: bool) -> i64
     ensures { result ≡ cond b (pos 1) (pos 0) }
 {
-    if b { 1 } else { 0 }
+    i64::from(b)
 }
 
 // And back.
@@ -59,23 +58,17 @@ fn detail_of(v: Value) -> usize
 }
 
 // How many elements of a list are used: none of a bad one.
-pub fn usable(check: ListCheck, count: usize) -> usize
+pub fn usable(check: Result<(), BadElement>, count: usize) -> usize
     ensures { result ≡ usable_count check count }
 {
-    match check {
-        ListCheck::Good => count,
-        ListCheck::Bad { place: _ } => 0,
-    }
+    if check.is_ok() { count } else { 0 }
 }
 
 // The elements of a list that are looked at.
 pub fn looked_at(count: usize) -> usize
     ensures { result ≡ min count most_elements }
 {
-    if List::MOST < count {
-        return List::MOST;
-    }
-    count
+    count.min(List::MOST)
 }
 
 // Row 6 of a list; where it is good, its elements' kinds, amounts and details.
@@ -85,10 +78,10 @@ pub fn take_apart(
     kinds: &mut [u64],
     amounts: &mut [i64],
     details: &mut [usize],
-) -> ListCheck
+) -> Result<(), BadElement>
     requires { (most_elements ≤ length kinds.old) × (most_elements ≤ length amounts.old) × (most_elements ≤ length details.old) }
     ensures checked { result ≡ list_check area.now list }
-    ensures apart { result ≡ ListCheck.Good → Apart (values list) (take list.count kinds.new) (take list.count amounts.new) (take list.count details.new) }
+    ensures apart { result ≡ good → Apart (values list) (take list.count kinds.new) (take list.count amounts.new) (take list.count details.new) }
 {
     let count = list.count;
     let n = looked_at(count);
@@ -96,8 +89,8 @@ pub fn take_apart(
     while i < n {
         let e = list.elements[i];
         let v = e.value;
-        if !within_limits(v, area) {
-            return ListCheck::Bad { place: i };
+        if !v.is_within_limits(area) {
+            return Err(BadElement { place: i });
         }
         kinds[i] = kind_number(v);
         amounts[i] = amount_of(v);
@@ -105,9 +98,9 @@ pub fn take_apart(
         i += 1;
     }
     if List::MOST < count {
-        return ListCheck::Bad { place: List::MOST };
+        return Err(BadElement { place: List::MOST });
     }
-    ListCheck::Good
+    Ok(())
 }
 
 // The kinds, amounts and details of a list that is good, which is not tested again.

@@ -1,15 +1,16 @@
 -- Digits read: the loop over them, and what its answers say.
 -- Assumes nothing.
 use mathlib.Core.Path.{◌≡◌, refl, sym, ap, ◌∙◌}
-use mathlib.Core.Bool.{Bool, true, false, ◌&&◌, cond}
+use mathlib.Core.Bool.{Bool, true, false, ◌&&◌, cond, and_assoc}
 use mathlib.Core.List.{List, [], ◌∷◌, ◌++◌}
 use Prim.Native.Nat.{ℕ, ◌+◌, ◌-◌, ◌*◌, ◌^◌, ◌<◌, ◌≤◌}
 use native.Mathlib.Numerals.{add-one}
 use native.Mathlib.Omega.{arith}
-use borrow.Author.Tests.{le-leb, lt-leb, leb-true}
+use borrow.Author.Tests.{leb-true}
 use lib.Dec.{leb}
 use lib.ListN.{length, take, drop, get_or}
 use lib.Seq.{take-suc, take_all, length-take-le, drop-cons}
+use Rattle.std.specs.Prelude.{None, Some}
 use Rattle.buffer.proofs.Tests.{and_true}
 use Rattle.number.specs.Limits.{largest}
 use Rattle.number.specs.Digits.{is_digit, Digits, all_digits, value}
@@ -17,7 +18,6 @@ use Rattle.number.proofs.PowerLaws.{ten_le}
 use Rattle.number.proofs.DigitLaws.{digit_bounds, digits_append, value_append, value_below, all_digits_lem, all_digits_is}
 use Rattle.list_text.specs.ElementLines.{some_digits}
 use Rattle.list_text.specs.Steps.{digits_read}
-use Rattle.list_text.specs.declared.DigitsRead.TheVariants.{Value, Wrong}
 
 -- ---- the loop: the first i bytes are digits, which make v
 
@@ -67,22 +67,21 @@ module _ {s : List ℕ} {v i : ℕ} (w : DigitsSoFar s v i) where
 -- ---- the answers
 
 module _ (most : ℕ) (s : List ℕ) where
-  pub digits_few : length s < 1 → Wrong ≡ digits_read most s
+  pub digits_outside : (leb 1 (length s) && leb (length s) most) ≡ false → None ≡ digits_read most s
   unfolding digits_read some_digits
-  digits_few h = rw (lt-leb 1 (length s) h)
+  digits_outside e = rw (← and_assoc (leb 1 (length s)) (leb (length s) most) (all_digits s), e)
 
-  pub digits_many : 1 ≤ length s → most < length s → Wrong ≡ digits_read most s
-  unfolding digits_read some_digits
-  digits_many l h = rw (le-leb 1 (length s) l, lt-leb (length s) most h)
+  module _ (fits : (leb 1 (length s) && leb (length s) most) ≡ true) where
+    pub digits_short : length s ≤ most
+    digits_short = leb-true (length s) most (and_true (leb 1 (length s)) (leb (length s) most) fits).1
 
-  module _ (l : 1 ≤ length s) (h : length s ≤ most) where
-    pub digits_wrong : all_digits s ≡ false → Wrong ≡ digits_read most s
+    pub digits_wrong : all_digits s ≡ false → None ≡ digits_read most s
     unfolding digits_read some_digits
-    digits_wrong e = rw (le-leb 1 (length s) l, le-leb (length s) most h, e)
+    digits_wrong e = rw (← and_assoc (leb 1 (length s)) (leb (length s) most) (all_digits s), fits, e)
 
-    pub digits_right : {v : ℕ} → (v ≡ value s) × (all_digits s ≡ true) → Value v ≡ digits_read most s
+    pub digits_right : {v : ℕ} → (v ≡ value s) × (all_digits s ≡ true) → Some v ≡ digits_read most s
     unfolding digits_read some_digits
-    digits_right e = rw (le-leb 1 (length s) l, le-leb (length s) most h, e.1, e.0)
+    digits_right e = rw (← and_assoc (leb 1 (length s)) (leb (length s) most) (all_digits s), fits, e.1, e.0)
 
 -- ---- what an answer says of the text
 
@@ -99,18 +98,18 @@ digits_largest most s h e =
     let d = some_digits_lem most s e in
     omega (arith, value_below s d.2, ten_le {i = length s} {j = 18} (omega arith))
 
-pub digits_value : (most : ℕ) (s : List ℕ) {m : ℕ} → digits_read most s ≡ Value m → (some_digits most s ≡ true) × (m ≡ value s)
+pub digits_value : (most : ℕ) (s : List ℕ) {m : ℕ} → digits_read most s ≡ Some m → (some_digits most s ≡ true) × (m ≡ value s)
 unfolding digits_read
 digits_value most s {m} e = go (some_digits most s) refl e
   where
-    go : (b : Bool) → some_digits most s ≡ b → cond b (Value (value s)) Wrong ≡ Value m → (some_digits most s ≡ true) × (m ≡ value s)
+    go : (b : Bool) → some_digits most s ≡ b → cond b (Some (value s)) None ≡ Some m → (some_digits most s ≡ true) × (m ≡ value s)
     go true p q = (p, (cc))
-    go false p q = let z : ◌≡◌ {A = ℕ} 0 1 = cc in absurd (omega arith)
+    go false p q = cc
 
-pub digits_none : (most : ℕ) (s : List ℕ) → digits_read most s ≡ Wrong → some_digits most s ≡ false
+pub digits_none : (most : ℕ) (s : List ℕ) → digits_read most s ≡ None → some_digits most s ≡ false
 unfolding digits_read
 digits_none most s e = go (some_digits most s) refl e
   where
-    go : (b : Bool) → some_digits most s ≡ b → cond b (Value (value s)) Wrong ≡ Wrong → some_digits most s ≡ false
-    go true p q = let z : ◌≡◌ {A = ℕ} 0 1 = cc in absurd (omega arith)
+    go : (b : Bool) → some_digits most s ≡ b → cond b (Some (value s)) None ≡ None → some_digits most s ≡ false
+    go true p q = cc
     go false p q = p

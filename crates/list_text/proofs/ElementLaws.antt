@@ -10,14 +10,13 @@ use lib.Dec.{eqb}
 use lib.IntN.{ℤ}
 use lib.ListN.{length, take, drop, get_or, length-drop, get_or-eq_default}
 use lib.Seq.{take_all}
+use Rattle.std.specs.Prelude.{None, Some}
 use Rattle.number.specs.Limits.{largest}
 use Rattle.number.specs.Digits.{is_digit}
 use Rattle.number.specs.Magnitude.{with_sign}
 use Rattle.list_elements.specs.declared.Value.TheVariants.{Integer, Decimal, Logical, Text}
-use Rattle.list_text.specs.ElementLines.{some_digits, has_minus, is_number, number_of, malformed, integer_line, units_part, decimal_line, logical_line, begins, element_on}
-use Rattle.list_text.specs.Steps.{digits_read, number_read}
-use Rattle.list_text.specs.declared.DigitsRead.TheVariants as digits
-use Rattle.list_text.specs.declared.NumberRead.TheVariants as number
+use Rattle.list_text.specs.ElementLines.{some_digits, is_number, number_of, malformed, integer_line, units_part, decimal_line, logical_line, begins, element_on}
+use Rattle.list_text.specs.Steps.{digits_read, signed_read, number_read}
 use Rattle.list_text.proofs.DigitReads.{digits_largest, digits_value, digits_none}
 
 -- a part up to the end, as a slice has it
@@ -26,56 +25,59 @@ part_rest s n = take_all (length s - n) (drop n s) (rw length-drop (omega arith)
 
 -- ---- numbers
 
-pub number_empty : (s : List ℕ) → length s < 1 → number.Wrong ≡ number_read s
+pub number_empty : (s : List ℕ) → length s < 1 → None ≡ number_read s
 unfolding number_read is_number some_digits
 number_empty [] h = refl
 number_empty (x ∷ s) h = absurd (omega arith)
 
-pub minus_if_lem : (s : List ℕ) → get_or s 0 0 ≡ 45 → has_minus s ≡ true
-minus_if_lem s e = eq-eqb (get_or s 0 0) 45 e
+module _ (s : List ℕ) where
+  pub digits_low : {m : ℕ} → digits_read 18 s ≡ Some m → m ≤ largest
+  digits_low {m} e =
+      let w = digits_value 18 s e in
+      rw w.1 (digits_largest 18 s (omega arith) w.0)
 
-pub no_minus_if : (s : List ℕ) → (get_or s 0 0 ≡ 45 → ⊥) → has_minus s ≡ false
-no_minus_if s e = ne_eqb (get_or s 0 0) 45 e
+  pub signed_right : {m : ℕ} {z : ℤ} (b : Bool) → digits_read 18 s ≡ Some m → z ≡ with_sign b m → Some z ≡ signed_read b s
+  unfolding signed_read
+  signed_right {m} {z} b e q =
+      let w = digits_value 18 s e in
+      rw (w.0, q, w.1)
 
-module _ (s : List ℕ) (b : Bool) (sign : has_minus s ≡ b) where
-  pub number_low : {m : ℕ} → digits_read 18 (cond b (drop 1 s) s) ≡ digits.Value m → m ≤ largest
-  number_low {m} e =
-      let w = digits_value 18 (cond b (drop 1 s) s) e in
-      rw w.1 (digits_largest 18 (cond b (drop 1 s) s) (omega arith) w.0)
+  pub signed_wrong : (b : Bool) → digits_read 18 s ≡ None → None ≡ signed_read b s
+  unfolding signed_read
+  signed_wrong b e = rw (digits_none 18 s e)
 
-  pub number_right : {m : ℕ} {z : ℤ} → digits_read 18 (cond b (drop 1 s) s) ≡ digits.Value m → z ≡ with_sign b m → number.Number z ≡ number_read s
-  unfolding number_read is_number number_of
-  number_right {m} {z} e q =
-      let w = digits_value 18 (cond b (drop 1 s) s) e in
-      rw (sign, w.0, q, w.1)
+  -- a minus, and what follows it; or none
+  pub number_minus : {rest : List ℕ} → rest ≡ drop 1 s → get_or s 0 0 ≡ 45 → signed_read true rest ≡ number_read s
+  unfolding signed_read number_read is_number number_of
+  number_minus q e = rw (q, eq-eqb (get_or s 0 0) 45 e)
 
-  pub number_wrong : digits_read 18 (cond b (drop 1 s) s) ≡ digits.Wrong → number.Wrong ≡ number_read s
-  unfolding number_read is_number
-  number_wrong e = rw (sign, digits_none 18 (cond b (drop 1 s) s) e)
+  pub number_plain : (get_or s 0 0 ≡ 45 → ⊥) → signed_read false s ≡ number_read s
+  unfolding signed_read number_read is_number number_of
+  number_plain e = rw (ne_eqb (get_or s 0 0) 45 e)
 
-number_value : (s : List ℕ) {z : ℤ} → number_read s ≡ number.Number z → (is_number s ≡ true) × (z ≡ number_of s)
+number_value : (s : List ℕ) {z : ℤ} → number_read s ≡ Some z → (is_number s ≡ true) × (z ≡ number_of s)
 unfolding number_read
 number_value s {z} e = go (is_number s) refl e
   where
-    go : (b : Bool) → is_number s ≡ b → cond b (number.Number (number_of s)) number.Wrong ≡ number.Number z → (is_number s ≡ true) × (z ≡ number_of s)
+    go : (b : Bool) → is_number s ≡ b → cond b (Some (number_of s)) None ≡ Some z → (is_number s ≡ true) × (z ≡ number_of s)
     go true p q = (p, (cc))
-    go false p q = let x : ◌≡◌ {A = ℕ} 0 1 = cc in absurd (omega arith)
+    go false p q = cc
 
-number_none : (s : List ℕ) → number_read s ≡ number.Wrong → is_number s ≡ false
+number_none : (s : List ℕ) → number_read s ≡ None → is_number s ≡ false
 unfolding number_read
 number_none s e = go (is_number s) refl e
   where
-    go : (b : Bool) → is_number s ≡ b → cond b (number.Number (number_of s)) number.Wrong ≡ number.Wrong → is_number s ≡ false
-    go true p q = let x : ◌≡◌ {A = ℕ} 0 1 = cc in absurd (omega arith)
+    go : (b : Bool) → is_number s ≡ b → cond b (Some (number_of s)) None ≡ None → is_number s ≡ false
+    go true p q = cc
     go false p q = p
 
 -- ---- the lines of the kinds
 
-pub integer_right : (s : List ℕ) {z : ℤ} → number_read s ≡ number.Number z → Integer z ≡ integer_line s
+pub integer_right : (s : List ℕ) {z : ℤ} → number_read s ≡ Some z → Integer z ≡ integer_line s
 unfolding integer_line
 integer_right s e = let w = number_value s e in rw (w.0, w.1)
 
-pub integer_wrong : (s : List ℕ) → number_read s ≡ number.Wrong → malformed ≡ integer_line s
+pub integer_wrong : (s : List ℕ) → number_read s ≡ None → malformed ≡ integer_line s
 unfolding integer_line
 integer_wrong s e = rw (number_none s e)
 
@@ -97,11 +99,11 @@ module _ (s : List ℕ) where
   decimal_places e f = rw (eq-eqb (get_or s (length s - 2) 0) 32 e, f, and_false (is_number (units_part s)) false refl)
 
   module _ (e : get_or s (length s - 2) 0 ≡ 32) (d : is_digit (get_or s (length s - 1) 0) ≡ true) where
-    pub decimal_right : {z : ℤ} → number_read (units_part s) ≡ number.Number z → Decimal (record { units = z; places = get_or s (length s - 1) 0 - 48 }) ≡ decimal_line s
+    pub decimal_right : {z : ℤ} → number_read (units_part s) ≡ Some z → Decimal (record { units = z; places = get_or s (length s - 1) 0 - 48 }) ≡ decimal_line s
     unfolding decimal_line
     decimal_right f = let w = number_value (units_part s) f in rw (eq-eqb (get_or s (length s - 2) 0) 32 e, d, w.0, w.1)
 
-    pub decimal_wrong : number_read (units_part s) ≡ number.Wrong → malformed ≡ decimal_line s
+    pub decimal_wrong : number_read (units_part s) ≡ None → malformed ≡ decimal_line s
     unfolding decimal_line
     decimal_wrong f = rw (number_none (units_part s) f)
 

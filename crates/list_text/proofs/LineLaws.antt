@@ -3,14 +3,20 @@
 use mathlib.Core.Path.{◌≡◌, refl, sym, ap, ◌∙◌}
 use mathlib.Core.Bool.{Bool, true, false, cond}
 use mathlib.Core.List.{List, [], ◌∷◌}
+use mathlib.Core.Logic.{◌⊎◌, inl, inr}
 use Prim.Native.Nat.{ℕ, zero, suc, ◌+◌, ◌<◌, ◌≤◌}
 use native.Mathlib.Nat.{not-suc-le-zero}
-use native.Mathlib.Numerals.{add-one}
 use native.Mathlib.Omega.{arith}
-use borrow.Author.Tests.{eq-eqb, ne_eqb}
-use lib.Dec.{eqb}
-use lib.ListN.{length, take, drop, get_or, drop_of_length-le}
-use lib.Seq.{drop-cons, drop-nil}
+use borrow.Author.Tests.{ltb-false}
+use lib.Dec.{eqb, ltb}
+use lib.ListN.{length, take, drop, drop_of_length-le}
+use lib.Seq.{take_all, drop-nil}
+use Rattle.std.proofs.Common.{Bor}
+use Rattle.std.specs.List.{position_or_len}
+use Rattle.std.specs.Prelude.{Option, None, Some, MatchOption, unwrap_or}
+use Rattle.std.specs.Slice.{IsGetRangeResult}
+use Rattle.std.proofs.lemmas.List.{take_rest}
+use Rattle.std.proofs.lemmas.List.Recursion.{is_position_or_len}
 use Rattle.list_text.specs.Lines.{line_feed, first_line, after_line, in_front, lines}
 use Rattle.list_text.specs.Promises.{LinesAre}
 
@@ -45,10 +51,6 @@ after_is (b ∷ s) = go (after_is s) (eqb b line_feed)
         let e : suc (length (first_line s)) + 1 ≡ suc (length (first_line s) + 1) = omega arith in
         ap (λ (n : ℕ). drop n (b ∷ s)) e ∙ r
 
--- past the end nothing is left
-pub past_end : (s : List ℕ) (i : ℕ) → length s ≤ i → drop i s ≡ drop (i + 1) s
-past_end s i h = drop_of_length-le s h ∙ sym (drop_of_length-le s {i = i + 1} (omega arith))
-
 -- ---- the lines one by one
 
 lines_front : (b : ℕ) (s : List ℕ) → (0 < length s → lines s ≡ first_line s ∷ lines (after_line s)) → in_front b (lines s) ≡ (b ∷ first_line s) ∷ lines (after_line s)
@@ -66,33 +68,39 @@ lines_are (b ∷ s) h = go (lines_front b s (lines_are s)) (eqb b line_feed)
     go r true = refl
     go r false = r
 
--- ---- the loop that looks for a line's end: i is on the line from `from` on
+-- ---- where the first line ends: at the first line feed, or at the end of the text
 
-pub record OnLine (s : List ℕ) (from i : ℕ) : Type 0 where
-  pub bound : i ≤ length s
-  pub left : from + length (first_line (drop from s)) ≡ i + length (first_line (drop i s))
+abbrev pub ends : ℕ → Bool
+ends b = eqb b line_feed
 
-pub on_none : {s : List ℕ} {from : ℕ} → from ≤ length s → OnLine s from from
-on_none h = record { bound = h; left = refl }
+line_length : (s : List ℕ) → length (first_line s) ≡ position_or_len ends s
+unfolding first_line
+line_length s = is_position_or_len (λ l. length (first_line l)) ends refl (λ b l. more b l (eqb b line_feed)) s
+  where
+    more : (b : ℕ) (l : List ℕ) (t : Bool) → length (cond t [] (b ∷ first_line l)) ≡ cond t 0 (1 + length (first_line l))
+    more b l true = refl
+    more b l false = omega arith
 
-module _ {s : List ℕ} {from i : ℕ} (w : OnLine s from i) where
-  pub on_more : i < length s → (get_or s i 0 ≡ line_feed → ⊥) → OnLine s from (i + 1)
-  unfolding first_line
-  on_more h n =
-      let e : first_line (drop i s) ≡ get_or s i 0 ∷ first_line (drop (i + 1) s) = rw (add-one i, drop-cons s i 0 h, ne_eqb (get_or s i 0) line_feed n) in
-      record { bound = omega arith; left = w.left ∙ rw e (omega arith) }
+pub line_to : (s : List ℕ) (o : Option ℕ) → o ≡ cond (ltb (position_or_len ends s) (length s)) (Some (position_or_len ends s)) None → MatchOption o (s ≡ first_line s) (λ end. take end s ≡ first_line s)
+line_to s o e = go (ltb (position_or_len ends s) (length s)) refl o e
+  where
+    go : (t : Bool) → ltb (position_or_len ends s) (length s) ≡ t → (o : Option ℕ) → o ≡ cond t (Some (position_or_len ends s)) None → MatchOption o (s ≡ first_line s) (λ end. take end s ≡ first_line s)
+    go true q None e = cc
+    go true q (Some end) e = let h : end ≡ position_or_len ends s = cc in rw (h ∙ sym (line_length s)) (line_is s)
+    go false q None e =
+        let h = ltb-false (position_or_len ends s) (length s) q in
+        sym (take_all (length (first_line s)) s (omega (arith, h, line_length s))) ∙ line_is s
+    go false q (Some end) e = cc
 
-  pub on_stop : i < length s → get_or s i 0 ≡ line_feed → (i ≡ from + length (first_line (drop from s))) × (i ≤ length s)
-  unfolding first_line
-  on_stop h q =
-      let e : first_line (drop i s) ≡ [] = rw (drop-cons s i 0 h, eq-eqb (get_or s i 0) line_feed q) in
-      (omega (arith, w.left, ap length e), w.bound)
-
-  pub on_end : length s ≤ i → (i ≡ from + length (first_line (drop from s))) × (i ≤ length s)
-  unfolding first_line
-  on_end h =
-      let e : first_line (drop i s) ≡ [] = rw (drop_of_length-le s h) in
-      (omega (arith, w.left, ap length e), w.bound)
+-- past the line feed, or the end
+module _ (s : List ℕ) {line : List ℕ} (is : line ≡ first_line s) where
+  pub rest_of : (o : Option (Bor (List ℕ))) → IsGetRangeResult s (length line + 1) (length s) o → (rest : Bor (List ℕ)) → rest.now ≡ [] → (unwrap_or o rest).now ≡ after_line s
+  rest_of None p rest e = e ∙ sym (drop_of_length-le s (none p.0)) ∙ ap (λ (l : List ℕ). drop (length l + 1) s) is ∙ after_is s
+    where
+      none : (length s < length line + 1) ⊎ (length s < length s) → length s ≤ length line + 1
+      none (inl h) = omega arith
+      none (inr h) = omega arith
+  rest_of (Some part) p rest e = p.0.2 ∙ take_rest s (length line + 1) ∙ ap (λ (l : List ℕ). drop (length l + 1) s) is ∙ after_is s
 
 -- ---- the line of the first bytes
 

@@ -14,11 +14,10 @@ use lib.Seq.{take-append-le, drop-append-le}
 use Rattle.number.specs.Digits.{is_digit}
 use Rattle.buffer.specs.Characters.{letter_i, letter_d, letter_l, letter_a}
 use Rattle.list_elements.specs.Elements.{text_bytes}
-use Rattle.list_elements.specs.Limits.{most_elements, longest_text, within_limits, first_failing, check_values}
+use Rattle.list_elements.specs.Limits.{most_elements, longest_text, good, bad, within_limits, first_failing, check_values}
 use Rattle.list_elements.specs.declared.Text.{Text}
 use Rattle.list_elements.specs.declared.Value.{Value}
 use Rattle.list_elements.specs.declared.Value.TheVariants as value
-use Rattle.list_elements.specs.declared.ListCheck.TheVariants.{Good, Bad}
 use Rattle.list_text.specs.Lines.{line_feed, first_line, after_line, lines}
 use Rattle.list_text.specs.ElementLines.{some_digits, has_minus, after_minus, is_number, number_of, malformed, integer_line, units_part, places_byte, decimal_line, logical_line, begins, element_on}
 use Rattle.list_text.specs.ListText.{elements_from, line_values, line_check}
@@ -180,8 +179,8 @@ lies_same s more (value.Text t) h =
 
 -- of both lists of values one of the first k fails, at the same place; or none does, and there are more
 data Alike (i k : ℕ) (test test₂ : Value → Bool) (vs ws : List Value) : Type 0 where
-  fails : (p : ℕ) → first_failing test i (take k vs) ≡ Bad p → first_failing test₂ i (take k ws) ≡ Bad p → Alike i k test test₂ vs ws
-  passes : first_failing test i (take k vs) ≡ Good → first_failing test₂ i (take k ws) ≡ Good → k < length vs → k < length ws → Alike i k test test₂ vs ws
+  fails : (p : ℕ) → first_failing test i (take k vs) ≡ bad p → first_failing test₂ i (take k ws) ≡ bad p → Alike i k test test₂ vs ws
+  passes : first_failing test i (take k vs) ≡ good → first_failing test₂ i (take k ws) ≡ good → k < length vs → k < length ws → Alike i k test test₂ vs ws
 
 module _ (i k : ℕ) (test test₂ : Value → Bool) (v : Value) (vs : List Value) (w : Value) (ws : List Value) where
   alike_bad : test v ≡ false → test₂ w ≡ false → Alike i (suc k) test test₂ (v ∷ vs) (w ∷ ws)

@@ -11,18 +11,19 @@ use native.Mathlib.Decide.{dec_lt}
 use borrow.Author.Tests.{lt-ltb, le-ltb}
 use lib.ListN.{length, get_or, take, drop, set, length-drop, drop_of_length-le}
 use lib.Seq.{take_all, take-suc, take-take, get_or-take, get_or-drop, drop-drop, split_at, length-take-le}
+use Rattle.std.specs.Prelude.{Result, Ok, Err}
+use Rattle.std.specs.Result.{result_unwrap_or}
 use Rattle.list_elements.specs.Elements.{zero_value, empty_list}
-use Rattle.list_elements.specs.Limits.{most_elements, within_limits, first_failing, check_values, check_number, check_place}
+use Rattle.list_elements.specs.Limits.{most_elements, good, bad, within_limits, first_failing, check_values, check_number, check_place}
 use Rattle.list_elements.specs.Contents.{element_of, list_of}
+use Rattle.list_elements.specs.declared.BadElement.{BadElement}
 use Rattle.list_elements.specs.declared.Value.{Value}
 use Rattle.list_elements.specs.declared.Element.{Element}
 use Rattle.list_elements.specs.declared.List as carried
-use Rattle.list_elements.specs.declared.ListCheck.{ListCheck}
-use Rattle.list_elements.specs.declared.ListCheck.TheVariants.{Good, Bad}
 use Rattle.list_elements.proofs.Placing.{Placing, placing_none, placing_more, placing_list}
 use Rattle.list_text.specs.Lines.{first_line, after_line, lines}
 use Rattle.list_text.specs.ElementLines.{element_on}
-use Rattle.list_text.specs.ListText.{elements_from, line_values, line_check, line_list}
+use Rattle.list_text.specs.ListText.{elements_from, line_values, line_check, line_read, line_list}
 use Rattle.list_text.proofs.LineLaws.{after_is, lines_are}
 
 -- ---- what is left of a list of values
@@ -50,7 +51,7 @@ pub record Passed (test : Value → Bool) (vs : List Value) (n : ℕ) : Type 0 w
   pub before : (ys : List Value) → first_failing test 0 (take n vs ++ ys) ≡ first_failing test n ys
 
 module _ {test : Value → Bool} {vs : List Value} {n : ℕ} (p : Passed test vs n) where
-  passed_good : first_failing test 0 (take n vs) ≡ Good
+  passed_good : first_failing test 0 (take n vs) ≡ good
   unfolding first_failing
   passed_good = ap (first_failing test 0) (sym (append-nil (take n vs))) ∙ p.before []
 
@@ -62,7 +63,7 @@ module _ {test : Value → Bool} {vs : List Value} {n : ℕ} (p : Passed test vs
             ∙ p.before (get_or vs n zero_value ∷ ys) ∙ rw t;
       }
 
-  passed_bad : (most : ℕ) → n < length vs → n < most → test (get_or vs n zero_value) ≡ false → first_failing test 0 (take most vs) ≡ Bad n
+  passed_bad : (most : ℕ) → n < length vs → n < most → test (get_or vs n zero_value) ≡ false → first_failing test 0 (take most vs) ≡ bad n
   unfolding first_failing
   passed_bad most h l t =
       let m : n < length (take most vs) = short in
@@ -96,31 +97,30 @@ module _ {s : List ℕ} {es : List Element} {n at : ℕ} (r : Reading s es n at)
     unfolding elements_from
     next_left = r.left ∙ rw (lines_are (drop at s) (rw length-drop (omega arith)))
 
-    pub reading_over : n ≡ most_elements → Bad most_elements ≡ line_check s
+    pub reading_over : n ≡ most_elements → bad n ≡ line_check s
     unfolding line_check check_values
     reading_over e =
         let l : most_elements < length (line_values s) = omega (arith, left_some (line_values s) n next_left) in
         rw (← e) (rw (passed_good r.passed) (rw e (rw (lt-ltb most_elements (length (line_values s)) l))))
 
-    pub reading_bad : {v : Value} → v ≡ next → (n ≡ most_elements → ⊥) → within_limits s v ≡ false → Bad n ≡ line_check s
+    pub reading_bad : (n ≡ most_elements → ⊥) → within_limits s next ≡ false → bad n ≡ line_check s
     unfolding line_check check_values
-    reading_bad {v} e m t =
-        let g : within_limits s (get_or (line_values s) n zero_value) ≡ false = rw (e, left_first (line_values s) n next_left) at t in
+    reading_bad m t =
+        let g : within_limits s (get_or (line_values s) n zero_value) ≡ false = rw (left_first (line_values s) n next_left) at t in
         rw (passed_bad r.passed most_elements (left_some (line_values s) n next_left) (omega (arith, r.few)) g)
 
-    pub reading_more : {v : Value} {end : ℕ} → v ≡ next → end ≡ at + length (first_line (drop at s)) → (n ≡ most_elements → ⊥) → within_limits s v ≡ true → Reading s (set es n (element_of v)) (n + 1) (end + 1)
-    reading_more {v} {end} e q m t =
-        let g : v ≡ get_or (line_values s) n zero_value = e ∙ left_first (line_values s) n next_left in
+    pub reading_more : {v : Value} {line : List ℕ} → line ≡ first_line (drop at s) → v ≡ element_on at line → (n ≡ most_elements → ⊥) → within_limits s v ≡ true → Reading s (set es n (element_of v)) (n + 1) (at + (length line + 1))
+    reading_more {v} {line} q e m t =
+        let g : v ≡ get_or (line_values s) n zero_value = e ∙ ap (element_on at) q ∙ left_first (line_values s) n next_left in
         let i : n < length (line_values s) = left_some (line_values s) n next_left in
-        let f : at + (length (first_line (drop at s)) + 1) ≡ end + 1 = omega arith in
-        let a : after_line (drop at s) ≡ drop (end + 1) s =
-        sym (after_is (drop at s)) ∙ drop-drop (length (first_line (drop at s)) + 1) at s ∙ ap (λ (k : ℕ). drop k s) f in
+        let a : after_line (drop at s) ≡ drop (at + (length (first_line (drop at s)) + 1)) s = sym (after_is (drop at s)) ∙ drop-drop (length (first_line (drop at s)) + 1) at s in
+        let f : at + length (first_line (drop at s)) + 1 ≡ at + (length (first_line (drop at s)) + 1) = omega arith in
         record {
           few = omega (arith, r.few);
           bound = omega arith;
           passed = passed_more r.passed i (rw g at t);
           placed = placing_more r.placed i (omega (arith, r.few)) g;
-          left = left_rest (line_values s) n next_left ∙ rw (a, q);
+          left = left_rest (line_values s) n next_left ∙ rw (a, f, q);
         }
 
   module _ (h : length s ≤ at) where
@@ -128,7 +128,7 @@ module _ {s : List ℕ} {es : List Element} {n at : ℕ} (r : Reading s es n at)
     unfolding elements_from lines
     all_read = omega (arith, r.bound, left_none (line_values s) n (r.left ∙ rw (drop_of_length-le s h)))
 
-    pub reading_good : Good ≡ line_check s
+    pub reading_good : good ≡ line_check s
     unfolding line_check check_values
     reading_good =
         let t : take most_elements (line_values s) ≡ take n (line_values s) = take_all most_elements (line_values s) (omega (arith, r.few, all_read)) ∙ sym (take_all n (line_values s) (omega (arith, all_read))) in
@@ -139,11 +139,16 @@ module _ {s : List ℕ} {es : List Element} {n at : ℕ} (r : Reading s es n at)
 
 -- ---- the answer
 
-abbrev Answered : List ℕ → ListCheck → carried.List → Type 0
-Answered s k l = (k ≡ line_check s) × ((l ≡ line_list s) × ((check_number k ≡ check_number (line_check s)) × (check_place k ≡ check_place (line_check s))))
+abbrev Answered : List ℕ → Result carried.List BadElement → Type 0
+Answered s r = record {
+  read : r ≡ line_read s;
+  list : result_unwrap_or r empty_list ≡ line_list s;
+  number : check_number r ≡ check_number (line_check s);
+  place : check_place r ≡ check_place (line_check s);
+}
 
-pub answered_bad : (s : List ℕ) {k : ListCheck} {l : carried.List} {p : ℕ} → (k ≡ Bad p) × (l ≡ empty_list) → Bad p ≡ line_check s → Answered s k l
-answered_bad s w e = rw (w.0, w.1, ← e) (refl, (refl, (refl, refl)))
+pub answered_bad : (s : List ℕ) {p : ℕ} → bad p ≡ line_check s → Answered s (Err (record { place = p }))
+answered_bad s e = record { read = rw (← e); list = rw (← e); number = ap check_number e; place = ap check_place e }
 
-pub answered_good : (s : List ℕ) {l : carried.List} → Good ≡ line_check s → l ≡ list_of (line_values s) → Answered s Good l
-answered_good s e f = rw (← e) (refl, (f, (refl, refl)))
+pub answered_good : (s : List ℕ) {l : carried.List} → good ≡ line_check s → l ≡ list_of (line_values s) → Answered s (Ok l)
+answered_good s e f = record { read = rw (← e, f); list = rw (← e) f; number = ap check_number e; place = ap check_place e }

@@ -1,13 +1,12 @@
 -- Document 01, the list text as a list, and row 6 of it.
 -- Assumes nothing.
-use Rattle.std.specs.Prelude.{List, [], ◌∷◌, ℕ, ◌+◌, length}
+use Rattle.std.specs.Prelude.{List, [], ◌∷◌, ℕ, ◌+◌, length, Result, Ok, Err}
 use Rattle.list_elements.specs.Elements.{empty_list}
 use Rattle.list_elements.specs.Contents.{list_of}
-use Rattle.list_elements.specs.Limits.{most_elements, within_limits, check_values}
+use Rattle.list_elements.specs.Limits.{most_elements, within_limits, ListCheck, check_values}
 use Rattle.list_elements.specs.declared.Value.{Value}
 use Rattle.list_elements.specs.declared.List as carried
-use Rattle.list_elements.specs.declared.ListCheck.{ListCheck}
-use Rattle.list_elements.specs.declared.ListCheck.TheVariants.{Good, Bad}
+use Rattle.list_elements.specs.declared.BadElement.{BadElement}
 use Rattle.list_text.specs.Lines.{lines}
 use Rattle.list_text.specs.ElementLines.{element_on}
 
@@ -24,10 +23,18 @@ line_values s = elements_from 0 (lines s)
 unfoldable pub line_check : List ℕ → ListCheck
 line_check s = check_values (within_limits s) most_elements (line_values s) (length (line_values s))
 
+-- the list, or refusal 6
+abbrev pub list_read : ListCheck → List Value → Result carried.List BadElement
+list_read (Ok u) vs = Ok (list_of vs)
+list_read (Err e) vs = Err e
+
+abbrev pub line_read : List ℕ → Result carried.List BadElement
+line_read s = list_read (line_check s) (line_values s)
+
 -- the list; empty where row 6 refuses: 'no values'
 abbrev pub list_given : ListCheck → List Value → carried.List
-list_given Good vs = list_of vs
-list_given (Bad p) vs = empty_list
+list_given (Ok u) vs = list_of vs
+list_given (Err e) vs = empty_list
 
 abbrev pub line_list : List ℕ → carried.List
 line_list s = list_given (line_check s) (line_values s)

@@ -4,10 +4,9 @@ use Rattle.std.specs.Prelude.{◌≡◌, ◌⊎◌, true, false, List, [], ◌�
 use Rattle.buffer.specs.Characters.{blank, minus_sign, digit_zero, digit_nine, letter_i, letter_d, letter_l, letter_a, letter_t, letter_f}
 use Rattle.number.specs.Digits.{Digits, value}
 use Rattle.number.specs.Magnitude.{with_sign}
-use Rattle.list_elements.specs.Limits.{most_elements, longest_text, within_limits}
+use Rattle.list_elements.specs.Limits.{most_elements, longest_text, bad, within_limits}
 use Rattle.list_elements.specs.declared.Value.{Value}
 use Rattle.list_elements.specs.declared.Value.TheVariants as value
-use Rattle.list_elements.specs.declared.ListCheck.TheVariants.{Bad}
 use Rattle.list_text.specs.Lines.{first_line, after_line, lines}
 use Rattle.list_text.specs.ElementLines.{malformed, element_on}
 use Rattle.list_text.specs.ListText.{line_check}
@@ -55,8 +54,8 @@ longest_list = most_elements * (longest_line + 1)
 -- a text, and the text with more behind it, are refused at the same element
 pub record RefusedAlike (s more : List ℕ) : Type 0 where
   pub place : ℕ
-  pub short : line_check s ≡ Bad place
-  pub whole : line_check (s ++ more) ≡ Bad place
+  pub short : line_check s ≡ bad place
+  pub whole : line_check (s ++ more) ≡ bad place
 
 -- 'over 64', or a line that is too long: a longer text is refused, and what follows does not matter
 abbrev pub LongRefused : Type 0

@@ -1,15 +1,15 @@
 -- What the inner readers answer. (Nothing here need be believed.)
 -- Assumes nothing.
-use Rattle.std.specs.Prelude.{cond, List, ℕ}
+use Rattle.std.specs.Prelude.{Bool, cond, List, ℕ, ℤ, Option, Some, None}
 use Rattle.number.specs.Digits.{value}
+use Rattle.number.specs.Magnitude.{with_sign}
 use Rattle.list_text.specs.ElementLines.{some_digits, is_number, number_of}
-use Rattle.list_text.specs.declared.DigitsRead.{DigitsRead}
-use Rattle.list_text.specs.declared.DigitsRead.TheVariants as digits
-use Rattle.list_text.specs.declared.NumberRead.{NumberRead}
-use Rattle.list_text.specs.declared.NumberRead.TheVariants as number
 
-unfoldable pub digits_read : ℕ → List ℕ → DigitsRead
-digits_read most s = cond (some_digits most s) (digits.Value (value s)) digits.Wrong
+unfoldable pub digits_read : ℕ → List ℕ → Option ℕ
+digits_read most s = cond (some_digits most s) (Some (value s)) None
 
-unfoldable pub number_read : List ℕ → NumberRead
-number_read s = cond (is_number s) (number.Number (number_of s)) number.Wrong
+unfoldable pub signed_read : Bool → List ℕ → Option ℤ
+signed_read negated s = cond (some_digits 18 s) (Some (with_sign negated (value s))) None
+
+unfoldable pub number_read : List ℕ → Option ℤ
+number_read s = cond (is_number s) (Some (number_of s)) None

@@ -1,31 +1,32 @@
 // The lines of a text.
-ghost use Rattle.std.specs.Prelude.{◌≡◌, ◌+◌, ◌≤◌, min, length, take, drop};
-ghost use Rattle.list_text.specs.Lines.{first_line};
+ghost use Rattle.std.specs.Prelude.{◌≡◌, ◌+◌, ◌≤◌, min, length, drop};
+ghost use Rattle.list_text.specs.Lines.{first_line, after_line};
+
+// The first line of a text, without its line feed.
+pub fn first_line(text: &[u8]) -> &[u8]
+    ensures { result.now ≡ first_line text.now }
+{
+    match text.iter().position(|&b| b == b'\n') {
+        Some(end) => &text[..end],
+        None => text,
+    }
+}
+
+// The first line, and what follows its line feed.
+pub fn split_line(text: &[u8]) -> (&[u8], &[u8])
+    ensures line { result.0.now ≡ first_line text.now }
+    ensures rest { result.1.now ≡ after_line text.now }
+{
+    let line = first_line(text);
+    (line, text.get(line.len() + 1..).unwrap_or(&[]))
+}
 
 // Where the line ends that starts at `from`: at its line feed, or at the end of the text.
 pub fn line_end(text: &[u8], from: usize) -> usize
     requires { from ≤ length text.now }
     ensures { (result ≡ from + length (first_line (drop from text.now))) × (result ≤ length text.now) }
 {
-    let mut i = from;
-    while i < text.len() {
-        if text[i] == b'\n' {
-            return i;
-        }
-        i += 1;
-    }
-    i
-}
-
-// The same, but at most `most` bytes on: no byte past them is looked at.
-pub fn line_end_within(text: &[u8], from: usize, most: usize) -> usize
-    requires { from ≤ length text.now }
-    ensures { (result ≡ from + length (first_line (take most (drop from text.now)))) × (result ≤ length text.now) }
-{
-    if text.len() - from <= most {
-        return line_end(text, from);
-    }
-    line_end(&text[..from + most], from)
+    from + first_line(&text[from..]).len()
 }
 
 // Where the next line starts, after a line's end.
@@ -33,8 +34,5 @@ pub fn next_line(text: &[u8], end: usize) -> usize
     requires { end ≤ length text.now }
     ensures { (drop result text.now ≡ drop (end + 1) text.now) × (result ≤ length text.now) × (result ≡ min (end + 1) (length text.now)) }
 {
-    if end < text.len() {
-        return end + 1;
-    }
-    end
+    text.len().min(end + 1)
 }

@@ -1,29 +1,28 @@
 // The numbers of a line.
 ghost use Rattle.std.specs.Prelude.{◌≡◌};
-ghost use Rattle.list_text.specs.Steps.{number_read};
+ghost use Rattle.list_text.specs.Steps.{signed_read, number_read};
 
 use crate::digits::read_digits;
-use crate::{DigitsRead, NumberRead};
 use number::sign::with_sign;
 
 // The most digits of a number.
 const MOST_DIGITS: usize = 18;
 
+// The number of these digits, negated or not.
+fn read_signed(negated: bool, digits: &[u8]) -> Option<i64>
+    ensures { result ≡ signed_read negated digits.now }
+{
+    Some(with_sign(negated, read_digits(digits, MOST_DIGITS)?))
+}
+
 // The number that the whole text spells.
-pub fn read_number(s: &[u8]) -> NumberRead
+pub fn read_number(s: &[u8]) -> Option<i64>
     ensures { result ≡ number_read s.now }
 {
-    if s.len() < 1 {
-        return NumberRead::Wrong;
-    }
-    if s[0] == b'-' {
-        return match read_digits(&s[1..], MOST_DIGITS) {
-            DigitsRead::Value(m) => NumberRead::Number(with_sign(true, m)),
-            DigitsRead::Wrong => NumberRead::Wrong,
-        };
-    }
-    match read_digits(s, MOST_DIGITS) {
-        DigitsRead::Value(m) => NumberRead::Number(with_sign(false, m)),
-        DigitsRead::Wrong => NumberRead::Wrong,
+    let (&first, rest) = s.split_first()?;
+    if first == b'-' {
+        read_signed(true, rest)
+    } else {
+        read_signed(false, s)
     }
 }

@@ -1,49 +1,45 @@
--- The loop that makes digits from the least significant one on.
+-- The loop that makes digits from the units on.
 -- Assumes nothing.
-use mathlib.Core.Path.{◌≡◌, refl, sym, ◌∙◌}
-use mathlib.Core.List.{List}
+use mathlib.Core.Path.{◌≡◌, sym, ap, ◌∙◌}
+use mathlib.Core.List.{List, ◌++◌, append-nil}
 use Prim.Native.Nat.{ℕ, suc, ◌+◌, ◌-◌, ◌/◌, ◌%◌, ◌^◌, ◌<◌, ◌≤◌}
 use native.Mathlib.Nat.{div-div-eq-div-mul, div-one, pow-suc}
 use native.Mathlib.Omega.{arith}
-use lib.ListN.{length, set, length-set}
-use Rattle.buffer.specs.Splice.{splice}
-use Rattle.buffer.proofs.Splicing.{splice_nothing, splice_one, splice_back}
+use lib.ListN.{length, take, drop, set, length-append}
+use lib.Seq.{take-append-le, take-take, take-length, drop_at, length-take-le, set_split}
 use Rattle.number.specs.Digits.{digits_of}
+use Rattle.number.proofs.DigitLaws.{length_digits}
 
--- the last k - i digits of m are laid behind the first i of k columns from offset at on, and the others make `rest`
-pub record Made (d₀ : List ℕ) (at k m : ℕ) (d : List ℕ) (rest i : ℕ) : Type 0 where
-  pub bound : i ≤ k
-  pub room : at + k ≤ length d₀
-  pub long : length d ≡ length d₀
-  pub laid : d ≡ splice d₀ (at + i) (digits_of (k - i) m)
-  pub left : rest ≡ m / 10 ^ (k - i)
+-- behind the first i bytes of the part d₀ stand the last digits of m, and the digits before them make `rest`
+pub record Made (d₀ : List ℕ) (m : ℕ) (d : List ℕ) (rest i : ℕ) : Type 0 where
+  pub bound : i ≤ length d₀
+  pub laid : d ≡ take i d₀ ++ digits_of (length d₀ - i) m
+  pub left : rest ≡ m / 10 ^ (length d₀ - i)
 
-pub made_none : {d : List ℕ} {at k m : ℕ} → at + k ≤ length d → Made d at k m d m k
+pub made_none : (d : List ℕ) (m : ℕ) → Made d m d m (length d)
 unfolding digits_of
-made_none {d} {at} {k} {m} h =
-    let e : k - k ≡ 0 = omega arith in
-    record { bound = omega arith; room = h; long = refl; laid = rw e (sym (splice_nothing d (at + k))); left = rw e (sym (div-one m)) }
+made_none d m =
+    let e : length d - length d ≡ 0 = omega arith in
+    record { bound = omega arith; laid = rw (e, take-length d, append-nil d); left = rw e (sym (div-one m)) }
 
-module _ {d₀ : List ℕ} {at k m : ℕ} {d : List ℕ} {rest i : ℕ} (w : Made d₀ at k m d rest i) where
-  pub made_more : 0 < i → Made d₀ at k m (set d (at + (i - 1)) (48 + rest % 10)) (rest / 10) (i - 1)
+module _ {d₀ : List ℕ} {m : ℕ} {d : List ℕ} {rest i : ℕ} (w : Made d₀ m d rest i) where
+  pub made_long : length d ≡ length d₀
+  made_long = rw w.laid (simp (length-append, length_digits, length-take-le i d₀ w.bound) (omega (arith, w.bound)))
+
+  pub made_more : {front digit : ℕ} → 0 < i → front ≡ rest / 10 → digit ≡ rest % 10 → Made d₀ m (set d (i - 1) (48 + digit)) front (i - 1)
   unfolding digits_of
-  made_more h =
-      let j : ℕ = k - i in
-      let e : k - (i - 1) ≡ suc j = omega (arith, w.bound) in
-      let r : at + (i - 1) < length d = omega (arith, w.bound, w.room, w.long) in
+  made_more {front} {digit} l a b =
+      let j : ℕ = i - 1 in
+      let h : i ≡ suc j = omega arith in
+      let k : ℕ = length d₀ - i in
+      let e : length d₀ - j ≡ suc k = omega (arith, w.bound) in
+      let f : length (take (suc j) d₀) ≡ suc j = length-take-le (suc j) d₀ (omega (arith, w.bound)) in
+      let v : ℕ = 48 + digit in
+      let first : take j (take (suc j) d₀ ++ digits_of k m) ≡ take j d₀ = rw (take-append-le j (take (suc j) d₀) (digits_of k m) (omega arith)) (take-take j (suc j) d₀ (omega arith)) in
+      let back : drop (suc j) (take (suc j) d₀ ++ digits_of k m) ≡ digits_of k m = drop_at (take (suc j) d₀) (digits_of k m) (suc j) f in
+      let laid : d ≡ take (suc j) d₀ ++ digits_of k m = w.laid ∙ ap (λ (n : ℕ). take n d₀ ++ digits_of k m) h in
       record {
         bound = omega (arith, w.bound);
-        room = w.room;
-        long = length-set d (at + (i - 1)) (48 + rest % 10) ∙ w.long;
-        laid =
-            rw (e, ← w.left)
-            (splice_back d₀ d _ (at + (i - 1)) (at + i) _ (digits_of j m) w.laid (splice_one d (at + (i - 1)) (48 + rest % 10) r) (omega arith) (omega (arith, w.bound, w.room)));
-        left = rw (e, w.left) (div-div-eq-div-mul m (10 ^ j) 10 ∙ rw (pow-suc 10 j));
+        laid = rw (e, ← w.left, ← b) (set_split d j v (omega (arith, made_long, w.bound)) ∙ rw laid (rw (first, back)));
+        left = a ∙ rw (e, w.left) (div-div-eq-div-mul m (10 ^ k) 10 ∙ rw (pow-suc 10 k));
       }
-
-  pub made_all : i ≤ 0 → (d ≡ splice d₀ at (digits_of k m)) × (rest ≡ m / 10 ^ k)
-  made_all h =
-      let z : i ≡ 0 = omega arith in
-      let e : at + i ≡ at = omega arith in
-      let f : k - i ≡ k = omega arith in
-      (w.laid ∙ rw (e, f), w.left ∙ rw f)

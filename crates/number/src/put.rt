@@ -1,40 +1,55 @@
 // Digits put into a buffer, from the units on.
-ghost use Rattle.std.specs.Prelude.{◌≡◌, ◌+◌, ◌/◌, ◌≤◌, ◌^◌, length};
-ghost use Rattle.buffer.specs.Splice.{splice};
+ghost use Rattle.std.specs.Prelude.{◌≡◌, ℕ, ◌/◌, ◌%◌, ◌^◌, length};
 ghost use Rattle.number.specs.Digits.{digits_of};
 
-// 2^32
-const NARROW: u64 = 4_294_967_296;
+// An unsigned number that is taken apart by tens.
+trait Tens: Copy {
+    ghost value: { Self → ℕ };
 
-// `put_digits` for a number of 32 bits, on which divisions are cheaper.
-fn put_narrow(dst: &mut [u8], at: usize, k: usize, m: u32) -> u32
-    requires { at + k ≤ length dst.old }
-    ensures { (dst.new ≡ splice dst.old at (digits_of k m)) × (result ≡ m / 10 ^ k) }
+    // The number without its last digit, and that digit.
+    fn split_last(self) -> (Self, u8)
+        ensures front { value result.0 ≡ value self / 10 }
+        ensures last { result.1 ≡ value self % 10 };
+}
+
+impl Tens for u32 {
+    ghost value = { λ n. n };
+
+    fn split_last(self) -> (u32, u8) {
+        (self / 10, (self % 10) as u8)
+    }
+}
+
+impl Tens for u64 {
+    ghost value = { λ n. n };
+
+    fn split_last(self) -> (u64, u8) {
+        (self / 10, (self % 10) as u8)
+    }
+}
+
+// The last digits of m, as many as the part has bytes; answers the number that the digits before them make. (By index: of
+// the elements behind `iter_mut().rev()` a proof would know nothing afterwards.)
+fn put<N: Tens>(part: &mut [u8], m: N) -> N
+    ensures digits { part.new ≡ digits_of (length part.old) (N.value m) }
+    ensures before { N.value result ≡ N.value m / 10 ^ length part.old }
 {
     let mut rest = m;
-    let mut i = k;
-    while 0 < i {
-        i -= 1;
-        dst[at + i] = b'0' + (rest % 10) as u8;
-        rest = rest / 10;
+    for i in (0..part.len()).rev() {
+        let (front, digit) = rest.split_last();
+        part[i] = b'0' + digit;
+        rest = front;
     }
     rest
 }
 
-// The last k digits of m; answers the number that the digits before them make.
-pub fn put_digits(dst: &mut [u8], at: usize, k: usize, m: u64) -> u64
-    requires { at + k ≤ length dst.old }
-    ensures { (dst.new ≡ splice dst.old at (digits_of k m)) × (result ≡ m / 10 ^ k) }
+// The same of 64 bits; divisions of 32 bits are cheaper.
+pub fn put_digits(part: &mut [u8], m: u64) -> u64
+    ensures digits { part.new ≡ digits_of (length part.old) m }
+    ensures before { result ≡ m / 10 ^ length part.old }
 {
-    if m < NARROW {
-        return put_narrow(dst, at, k, m as u32) as u64;
+    match u32::try_from(m) {
+        Ok(narrow) => u64::from(put(part, narrow)),
+        Err(_) => put(part, m),
     }
-    let mut rest = m;
-    let mut i = k;
-    while 0 < i {
-        i -= 1;
-        dst[at + i] = b'0' + (rest % 10) as u8;
-        rest = rest / 10;
-    }
-    rest
 }

@@ -15,8 +15,8 @@ use Rattle.field_written.specs.TextField.{text_field}
 use Rattle.field_written.proofs.Promises.{starred_is}
 use Rattle.field_read.specs.Read.{read_field, read_refusal, Gives}
 use Rattle.field_read.specs.TextRead.{shown_text}
-use Rattle.field_read.specs.declared.FieldRead.{FieldRead}
-use Rattle.field_read.specs.declared.FieldRead.TheVariants as numbers
+use Rattle.std.specs.Prelude.{Option, Some, None}
+use Rattle.field_read.specs.declared.Number.{Number}
 use Rattle.field_read.proofs.Promises.{integer_reads_back, decimal_reads_back, stars_refused, logical_reads_back, text_reads_back, text_read_length}
 use Rattle.format_items.specs.Items.{Field}
 use Rattle.format_items.specs.Met.{Met}
@@ -77,24 +77,24 @@ suiting (Field.Aw w) (value.Text t) e = Suiting.text-Aw
 
 -- ---- what an answer of reading gives
 
-integer_given_lem : (r : FieldRead) (u : ℤ) (p : ℕ) → Gives r u p → integer_given r ≡ gives (integer u)
-integer_given_lem (numbers.Number v q) u p g = ap (λ (z : ℤ). gives (integer z)) g.units
-integer_given_lem numbers.Refused u p g = absurd (omega (arith, g.accepted))
+integer_given_lem : (r : Option Number) (u : ℤ) (p : ℕ) → Gives r u p → integer_given r ≡ gives (integer u)
+integer_given_lem (Some n) u p g = ap (λ (z : ℤ). gives (integer z)) g.units
+integer_given_lem None u p g = absurd (omega (arith, g.accepted))
 
-decimal_given_lem : (r : FieldRead) (u : ℤ) (p : ℕ) → Gives r u p → decimal_given r ≡ gives (decimal u p)
-decimal_given_lem (numbers.Number v q) u p g =
-    let a : v ≡ u = g.units in
-    let b : q ≡ p = g.places_read_lem in
+decimal_given_lem : (r : Option Number) (u : ℤ) (p : ℕ) → Gives r u p → decimal_given r ≡ gives (decimal u p)
+decimal_given_lem (Some n) u p g =
+    let a : n.units ≡ u = g.units in
+    let b : n.places ≡ p = g.places_read_lem in
     rw (a, b)
-decimal_given_lem numbers.Refused u p g = absurd (omega (arith, g.accepted))
+decimal_given_lem None u p g = absurd (omega (arith, g.accepted))
 
-integer_nothing : (r : FieldRead) → read_refusal r ≡ 12 → integer_given r ≡ nothing
-integer_nothing (numbers.Number v q) e = absurd (omega arith)
-integer_nothing numbers.Refused e = refl
+integer_nothing : (r : Option Number) → read_refusal r ≡ 12 → integer_given r ≡ nothing
+integer_nothing (Some n) e = absurd (omega arith)
+integer_nothing None e = refl
 
-decimal_nothing : (r : FieldRead) → read_refusal r ≡ 12 → decimal_given r ≡ nothing
-decimal_nothing (numbers.Number v q) e = absurd (omega arith)
-decimal_nothing numbers.Refused e = refl
+decimal_nothing : (r : Option Number) → read_refusal r ≡ 12 → decimal_given r ≡ nothing
+decimal_nothing (Some n) e = absurd (omega arith)
+decimal_nothing None e = refl
 
 -- ---- where it is not starred
 
@@ -113,7 +113,7 @@ given_back area w (Suiting.integer-I {n}) s e =
 given_back area w (Suiting.decimal-F {x} {d}) s e =
     let small : too_large x.units x.places d ≡ false = s.small in
     decimal_given_lem (read_field (Numeric.F d) (decimal_field plain w d x.units x.places)) (rounded_units x.units x.places d) d
-    (decimal_reads_back plain w d x.units x.places (omega (arith, s.ranges.1)) (rw (small, e)) (rw (small, e)))
+    (decimal_reads_back plain w d x.units x.places (omega (arith, s.ranges.1)) (rw small) (rw (small, e)))
 given_back area w (Suiting.logical-L {b}) s e = rw (logical_reads_back w b (omega (arith, s.wide, s.ranges)))
 given_back area w (Suiting.text-A {t}) s e =
     let l = within_text area t s.good in

@@ -12,11 +12,9 @@ use Rattle.format_items.specs.Items.{Items}
 use Rattle.format_grammar.specs.Check as formats
 use Rattle.format_grammar.proofs.Promises as grammar
 use Rattle.list_elements.specs.Elements.{Kind, kind_of, values}
-use Rattle.list_elements.specs.Limits.{within_limits, wanted_within, may_be_wanted, wanted_check, texts_length, longest_text}
+use Rattle.list_elements.specs.Limits.{ListCheck, good, within_limits, wanted_within, may_be_wanted, wanted_check, texts_length, longest_text}
 use Rattle.list_elements.specs.declared.Value.{Value}
 use Rattle.list_elements.specs.declared.Value.TheVariants as value
-use Rattle.list_elements.specs.declared.ListCheck.{ListCheck}
-use Rattle.list_elements.specs.declared.ListCheck.TheVariants.{Good}
 use Rattle.list_elements.proofs.ApartLaws.{within_text, good_at, check_good}
 use Rattle.list_elements.proofs.RowSix.{good_back}
 use Rattle.sheet_walk.specs.Walk.{Trace, sheet, walk}
@@ -39,7 +37,7 @@ use Rattle.read_back.proofs.Placed.{acceptable, kind_at_lem, records_long}
 -- ---- what becomes of a reading that passes the rows before the walk
 
 rows_passed : (R : ℕ) (format : List ℕ) (xs : Items) (check : ListCheck) (kinds : List Kind) (room : ℕ) (records : List ℕ) → 1 ≤ R → R ≤ 255
-    → formats.outcome format ≡ formats.accepted xs → check ≡ Good → texts_length kinds ≤ room → 0 < length records / R
+    → formats.outcome format ≡ formats.accepted xs → check ≡ good → texts_length kinds ≤ room → 0 < length records / R
     → reading_of R format check kinds room records ≡ concluded (gathered R kinds records (walk (sheet xs kinds (record { width = R; count = length records / R }))))
 unfolding reading_of
 rows_passed R format xs check kinds room records low high f g fits some =
@@ -71,7 +69,7 @@ module _ (c : writing.Call) (t : Trace) (e : Accepted c t) (b : reading.Call) (r
       sym (kind_at_lem (values b.wanted) j) ∙ ap (λ ks. kind_at ks j) r.same_kinds ∙ kind_at_lem (values_of c) j
 
   -- row 6 is passed
-  wanted_good : wanted_check b.wanted ≡ Good
+  wanted_good : wanted_check b.wanted ≡ good
   wanted_good =
       let g = check_good (within_limits c.area) c.list (acceptable c t e).walks.list in
       good_back may_be_wanted b.wanted (omega (arith, g.1, r.same_count))

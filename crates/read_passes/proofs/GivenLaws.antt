@@ -9,10 +9,8 @@ use Rattle.field_written.specs.Numeral.{Numeric}
 use Rattle.field_read.specs.Read.{read_field}
 use Rattle.field_read.specs.LogicalRead.{logical_read}
 use Rattle.field_read.specs.TextRead.{text_readable, text_read}
-use Rattle.field_read.specs.declared.FieldRead.{FieldRead}
-use Rattle.field_read.specs.declared.FieldRead.TheVariants as numeric
-use Rattle.field_read.specs.declared.LogicalRead.{LogicalRead}
-use Rattle.field_read.specs.declared.LogicalRead.TheVariants as truth
+use Rattle.std.specs.Prelude.{Option, Some, None}
+use Rattle.field_read.specs.declared.Number.{Number}
 use Rattle.field_read.proofs.Promises.{text_read_length}
 use Rattle.format_items.specs.Items.{Field}
 use Rattle.buffer.proofs.Tests.{no_way}
@@ -32,17 +30,17 @@ same_kind e = cc
 
 -- ---- by the field
 
-integer_kind_lem : (r : FieldRead) (c : Content) → integer_given r ≡ gives c → content_kind c ≡ kind.integer
-integer_kind_lem (numeric.Number u p) c e = same_kind e
-integer_kind_lem numeric.Refused c e = no_content e
+integer_kind_lem : (r : Option Number) (c : Content) → integer_given r ≡ gives c → content_kind c ≡ kind.integer
+integer_kind_lem (Some n) c e = same_kind e
+integer_kind_lem None c e = no_content e
 
-decimal_kind_lem : (r : FieldRead) (c : Content) → decimal_given r ≡ gives c → content_kind c ≡ kind.decimal
-decimal_kind_lem (numeric.Number u p) c e = same_kind e
-decimal_kind_lem numeric.Refused c e = no_content e
+decimal_kind_lem : (r : Option Number) (c : Content) → decimal_given r ≡ gives c → content_kind c ≡ kind.decimal
+decimal_kind_lem (Some n) c e = same_kind e
+decimal_kind_lem None c e = no_content e
 
-logical_kind_lem : (r : LogicalRead) (c : Content) → logical_given r ≡ gives c → content_kind c ≡ kind.logical
-logical_kind_lem (truth.Truth b) c e = same_kind e
-logical_kind_lem truth.Refused c e = no_content e
+logical_kind_lem : (r : Option Bool) (c : Content) → logical_given r ≡ gives c → content_kind c ≡ kind.logical
+logical_kind_lem (Some b) c e = same_kind e
+logical_kind_lem None c e = no_content e
 
 text_kind_lem : (m : ℕ) (t : List ℕ) (c : Content) → text_given m t ≡ gives c → content_kind c ≡ kind.text m
 text_kind_lem m t c = go (text_readable t)

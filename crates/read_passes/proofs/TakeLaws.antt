@@ -13,10 +13,8 @@ use Rattle.field_written.specs.Numeral.{Numeric}
 use Rattle.field_read.specs.Read.{read_field}
 use Rattle.field_read.specs.LogicalRead.{logical_read}
 use Rattle.field_read.specs.TextRead.{text_read}
-use Rattle.field_read.specs.declared.FieldRead.{FieldRead}
-use Rattle.field_read.specs.declared.FieldRead.TheVariants as numeric
-use Rattle.field_read.specs.declared.LogicalRead.{LogicalRead}
-use Rattle.field_read.specs.declared.LogicalRead.TheVariants as truth
+use Rattle.std.specs.Prelude.{Option, Some, None}
+use Rattle.field_read.specs.declared.Number.{Number}
 use Rattle.format_items.specs.Items.{Field}
 use Rattle.format_items.specs.Met.{Met}
 use Rattle.format_words.specs.Words.{kind_of, first_of, second_of, met_of, kind_i, kind_f, kind_l, kind_a, kind_aw}
@@ -35,17 +33,17 @@ use Rattle.read_passes.specs.declared.Taken.TheVariants.{Element, Nothing, Liter
 -- ---- one field
 
 module _ (records : List ℕ) where
-  given_integer : (k : Kind) → k ≡ integer → (read : FieldRead) → GivenAs records k (integer_given read) (number_taken read)
-  given_integer k e (numeric.Number u p) = rw e (u, p, refl, refl)
-  given_integer k e numeric.Refused = refl
+  given_integer : (k : Kind) → k ≡ integer → (read : Option Number) → GivenAs records k (integer_given read) (number_taken read)
+  given_integer k e (Some n) = rw e (n.units, n.places, refl, refl)
+  given_integer k e None = refl
 
-  given_decimal : (k : Kind) → k ≡ decimal → (read : FieldRead) → GivenAs records k (decimal_given read) (number_taken read)
-  given_decimal k e (numeric.Number u p) = rw e (u, p, refl, refl)
-  given_decimal k e numeric.Refused = refl
+  given_decimal : (k : Kind) → k ≡ decimal → (read : Option Number) → GivenAs records k (decimal_given read) (number_taken read)
+  given_decimal k e (Some n) = rw e (n.units, n.places, refl, refl)
+  given_decimal k e None = refl
 
-  given_logical : (k : Kind) → k ≡ logical → (read : LogicalRead) → GivenAs records k (logical_given read) (logical_taken read)
-  given_logical k e (truth.Truth b) = rw e (cond b (pos 1) (pos 0), 0, refl, (b, refl, refl))
-  given_logical k e truth.Refused = refl
+  given_logical : (k : Kind) → k ≡ logical → (read : Option Bool) → GivenAs records k (logical_given read) (logical_taken read)
+  given_logical k e (Some b) = rw e (cond b (pos 1) (pos 0), 0, refl, (b, refl, refl))
+  given_logical k e None = refl
 
   given_text : (k : Kind) (at w : ℕ) → k ≡ text (text_length k) → at + w ≤ length records → w < 256
       → GivenAs records k (text_given (text_length k) (take w (drop at records))) (cond (all_printable (take w (drop at records))) (Element (pos w) at) Nothing)

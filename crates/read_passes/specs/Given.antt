@@ -1,14 +1,11 @@
 -- Document 01, 'Fields read': what each placement of the walk gives in reading, and the shown value.
 -- Assumes nothing.
-use Rattle.std.specs.Prelude.{cond, List, [], ◌∷◌, ℕ, ℤ, get_or}
+use Rattle.std.specs.Prelude.{Bool, cond, List, [], ◌∷◌, ℕ, ℤ, get_or, Option, Some, None}
 use Rattle.field_written.specs.Numeral.{Numeric}
 use Rattle.field_read.specs.Read.{read_field, shown_integer, shown_units, shown_places}
 use Rattle.field_read.specs.LogicalRead.{logical_read}
 use Rattle.field_read.specs.TextRead.{text_readable, text_read, shown_text}
-use Rattle.field_read.specs.declared.FieldRead.{FieldRead}
-use Rattle.field_read.specs.declared.FieldRead.TheVariants as numeric
-use Rattle.field_read.specs.declared.LogicalRead.{LogicalRead}
-use Rattle.field_read.specs.declared.LogicalRead.TheVariants as truth
+use Rattle.field_read.specs.declared.Number.{Number}
 use Rattle.format_items.specs.Items.{Field}
 use Rattle.list_elements.specs.Elements as kind
 use Rattle.list_elements.specs.Elements.{Kind, text_length}
@@ -26,17 +23,17 @@ pub data Given : Type 0 where
   gives : Content → Given
   nothing : Given
 
-abbrev pub integer_given : FieldRead → Given
-integer_given (numeric.Number u p) = gives (integer u)
-integer_given numeric.Refused = nothing
+abbrev pub integer_given : Option Number → Given
+integer_given (Some n) = gives (integer n.units)
+integer_given None = nothing
 
-abbrev pub decimal_given : FieldRead → Given
-decimal_given (numeric.Number u p) = gives (decimal u p)
-decimal_given numeric.Refused = nothing
+abbrev pub decimal_given : Option Number → Given
+decimal_given (Some n) = gives (decimal n.units n.places)
+decimal_given None = nothing
 
-abbrev pub logical_given : LogicalRead → Given
-logical_given (truth.Truth b) = gives (logical b)
-logical_given truth.Refused = nothing
+abbrev pub logical_given : Option Bool → Given
+logical_given (Some b) = gives (logical b)
+logical_given None = nothing
 
 -- for a text of length m
 abbrev pub text_given : ℕ → List ℕ → Given

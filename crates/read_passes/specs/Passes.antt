@@ -1,12 +1,9 @@
 -- What the pass of reading and the list made after it are given, as words and numbers. (Nothing here need be believed: the public
 -- call's contract does not speak of it.)
 -- Assumes nothing.
-use Rattle.std.specs.Prelude.{◌≡◌, Bool, cond, List, map, ℕ, ◌+◌, ◌<◌, ◌≤◌, ℤ, pos, length, take, drop, get_or}
+use Rattle.std.specs.Prelude.{◌≡◌, Bool, cond, List, map, ℕ, ◌+◌, ◌<◌, ◌≤◌, ℤ, pos, length, take, drop, get_or, Option, Some, None}
 use Rattle.field_read.specs.TextRead.{text_read}
-use Rattle.field_read.specs.declared.FieldRead.{FieldRead}
-use Rattle.field_read.specs.declared.FieldRead.TheVariants as numeric
-use Rattle.field_read.specs.declared.LogicalRead.{LogicalRead}
-use Rattle.field_read.specs.declared.LogicalRead.TheVariants as truth
+use Rattle.field_read.specs.declared.Number.{Number}
 use Rattle.list_elements.specs.Elements.{Kind, integer, decimal, logical, text}
 use Rattle.list_elements.specs.Limits.{most_elements, texts_length}
 use Rattle.list_elements.specs.Apart.{kind_from}
@@ -40,13 +37,13 @@ pub record SomeHeldAs (records : List ℕ) (k : Kind) (a : ℤ) (d : ℕ) : Type
 -- ---- one placement
 
 -- numbers and logicals read
-abbrev pub number_taken : FieldRead → Taken
-number_taken (numeric.Number u p) = Element u p
-number_taken numeric.Refused = Nothing
+abbrev pub number_taken : Option Number → Taken
+number_taken (Some n) = Element n.units n.places
+number_taken None = Nothing
 
-abbrev pub logical_taken : LogicalRead → Taken
-logical_taken (truth.Truth b) = Element (cond b (pos 1) (pos 0)) 0
-logical_taken truth.Refused = Nothing
+abbrev pub logical_taken : Option Bool → Taken
+logical_taken (Some b) = Element (cond b (pos 1) (pos 0)) 0
+logical_taken None = Nothing
 
 -- what a field gives, as the code answers it
 abbrev pub GivenAs : List ℕ → Kind → Given → Taken → Type 0

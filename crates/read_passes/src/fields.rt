@@ -7,34 +7,35 @@ ghost use Rattle.sheet_walk.specs.Turns.{what_of, WordCovers};
 ghost use Rattle.read_passes.specs.Passes.{number_taken, logical_taken, TakenAs, SomeCovers};
 
 use crate::Taken;
+use field_read::Number;
 use field_read::decimal::read_decimal;
 use field_read::integer::read_integer;
 use field_read::logical::read_logical;
-use field_read::{FieldRead, LogicalRead};
 use format_words::{KIND_A, KIND_AW, KIND_BASE, KIND_F, KIND_I, KIND_L, second_of};
 use list_elements::apart::one_if;
+use number::sign::with_sign;
 
-fn number_taken(read: FieldRead) -> Taken
+fn number_taken(read: Option<Number>) -> Taken
     ensures { result ≡ number_taken read }
 {
     match read {
-        FieldRead::Number { units, places } => Taken::Element {
-            amount: units,
-            detail: places,
+        Some(number) => Taken::Element {
+            amount: number.units,
+            detail: number.places,
         },
-        FieldRead::Refused => Taken::Nothing,
+        None => Taken::Nothing,
     }
 }
 
-fn logical_taken(read: LogicalRead) -> Taken
+fn logical_taken(read: Option<bool>) -> Taken
     ensures { result ≡ logical_taken read }
 {
     match read {
-        LogicalRead::Truth(b) => Taken::Element {
+        Some(b) => Taken::Element {
             amount: one_if(b),
             detail: 0,
         },
-        LogicalRead::Refused => Taken::Nothing,
+        None => Taken::Nothing,
     }
 }
 
@@ -43,9 +44,9 @@ fn text_taken(records: &[u8], at: usize, width: usize) -> Taken
     requires { (at + width ≤ length records.now) × (width < 256) }
     ensures { result ≡ cond (all_printable (take width (drop at records.now))) (Taken.Element (pos width) at) Taken.Nothing }
 {
-    if buffer::characters::printable(records, at, width) {
+    if buffer::characters::all_printable(&records[at..at + width]) {
         return Taken::Element {
-            amount: number::sign::with_sign(false, width as u64),
+            amount: with_sign(false, width as u64),
             detail: at,
         };
     }

@@ -35,8 +35,8 @@ fn give_value(
         KIND_LOGICAL => Value::Logical(truth(amount)),
         _ => {
             let len = (kind / LENGTH_BASE) as usize;
-            let width = number::sign::magnitude(amount) as usize;
-            read_text(area, at, len, records, detail, width);
+            let width = amount.unsigned_abs() as usize;
+            read_text(&mut area[at..at + len], &records[detail..detail + width]);
             Value::Text(Text { start: at, len })
         }
     }

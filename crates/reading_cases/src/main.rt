@@ -19,10 +19,20 @@ mod cases;
 mod records;
 mod values;
 
+use case_lines::lines::input_lines;
+use case_lines::sheets::Sheet;
 use std::io;
 
 fn main(rt: HostRuntime) -> io::Result<()> {
-    let mut input = [0u8; 65536];
-    let n = input_bytes::read_full(&mut rt.stdin(), &mut input)?;
-    cases::each_case(&rt, &input[..n])
+    let input = input_lines(&rt)?;
+    let mut lines = input.iter();
+    while let Some(line) = lines.next() {
+        if line.starts_with(b"*") {
+            rt.write_all(line)?;
+            rt.write_all(b"\n")?;
+        } else {
+            cases::show_case(&rt, &Sheet::new(line, &mut lines))?;
+        }
+    }
+    Ok(())
 }

@@ -7,10 +7,15 @@
 mod answers;
 mod cases;
 
+use case_lines::lines::input_lines;
+use case_lines::sheets::Sheet;
 use std::io;
 
 fn main(rt: HostRuntime) -> io::Result<()> {
-    let mut input = [0u8; 65536];
-    let n = input_bytes::read_full(&mut rt.stdin(), &mut input)?;
-    cases::each_case(&rt, &input[..n])
+    let input = input_lines(&rt)?;
+    let mut lines = input.iter();
+    while let Some(head) = lines.next() {
+        cases::show_case(&rt, &Sheet::new(head, &mut lines))?;
+    }
+    Ok(())
 }

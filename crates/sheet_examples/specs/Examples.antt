@@ -1,12 +1,11 @@
 -- Document 01, 'Sheet examples': those marked M.
 -- Assumes nothing.
-use Rattle.std.specs.Prelude.{◌≡◌, cond, List, [], ◌∷◌, map, ℕ, eqb, length, replicate, ℤ, pos, neg_ℤ}
+use Rattle.std.specs.Prelude.{◌≡◌, cond, List, [], ◌∷◌, map, ℕ, eqb, length, replicate, ℤ, pos, neg_ℤ, None}
 use Prim.Native.String.{String}
 use Rattle.buffer.specs.Characters.{blank, bytes}
 use Rattle.field_written.specs.Numeral.{I, F, plain}
 use Rattle.field_written.specs.Written.{starred, after_integer, put_decimal, after_decimal, put_starred}
 use Rattle.field_read.specs.Read.{read_field, read_refusal, read_units, read_places}
-use Rattle.field_read.specs.declared.FieldRead.TheVariants.{Refused}
 
 pub data Example : Type 0 where
   -- Iw of n gives the text, and so many starred fields
@@ -25,7 +24,7 @@ unfoldable pub computed : Example → Answer
 computed (integer w n t k) = writes (after_integer plain (replicate w blank) 0 w n) (cond (starred plain I w n) 1 0)
 computed (decimal w d u s t k) = writes (after_decimal plain (replicate w blank) 0 w d u s) (put_starred (put_decimal plain w d u s))
 computed (read w d t u s) =
-    let r = cond (eqb (length (bytes t)) w) (read_field (F d) (bytes t)) Refused in
+    let r = cond (eqb (length (bytes t)) w) (read_field (F d) (bytes t)) None in
     reads (read_refusal r) (read_units r) (read_places r)
 
 -- by the paper

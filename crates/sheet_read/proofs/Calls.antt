@@ -7,13 +7,12 @@ use Prim.Native.Nat.{ℕ, ◌/◌}
 use borrow.Author.Tests.{le-leb, lt-leb, leb-true, leb-false}
 use lib.Dec.{leb}
 use lib.ListN.{length}
+use Rattle.std.specs.Prelude.{Ok, Err}
 use Rattle.format_items.specs.Items.{Items}
 use Rattle.format_grammar.specs.Check.{outcome}
 use Rattle.format_grammar.proofs.Promises.{accepts_exactly}
 use Rattle.list_elements.specs.Contents.{Content}
-use Rattle.list_elements.specs.Limits.{wanted_check, texts_length}
-use Rattle.list_elements.specs.declared.ListCheck.{ListCheck}
-use Rattle.list_elements.specs.declared.ListCheck.TheVariants.{Good, Bad}
+use Rattle.list_elements.specs.Limits.{ListCheck, good, wanted_check, texts_length}
 use Rattle.sheet_walk.specs.Steps.{Placement}
 use Rattle.sheet_walk.specs.Promises.{StopsWith}
 use Rattle.sheet_walk.specs.Walk.{Trace, put}
@@ -80,14 +79,14 @@ wanted_says c =
       answers_only = λ k p a. answers a;
     }
   where
-    told_area : wanted_check c.wanted ≡ Good → (b : Bool) → leb (texts_length (kinds_of c)) (length c.area) ≡ b
+    told_area : wanted_check c.wanted ≡ good → (b : Bool) → leb (texts_length (kinds_of c)) (length c.area) ≡ b
         → RowTold (WantedPass c) (WantedAnswers c) (then (cond b passed (rows.refused TextArea)) passed)
     told_area g true e = RowTold.passes (record { good = g; room = leb-true (texts_length (kinds_of c)) (length c.area) e })
     told_area g false e = RowTold.answers (WantedAnswers.no_room g (leb-false (texts_length (kinds_of c)) (length c.area) e))
 
     told_so : (k : ListCheck) → wanted_check c.wanted ≡ k → RowTold (WantedPass c) (WantedAnswers c) (wanted_rows k (kinds_of c) (length c.area))
-    told_so Good e = told_area e (leb (texts_length (kinds_of c)) (length c.area)) refl
-    told_so (Bad p) e = RowTold.answers (WantedAnswers.row_six (BadElement.bad_element e))
+    told_so (Ok u) e = told_area e (leb (texts_length (kinds_of c)) (length c.area)) refl
+    told_so (Err p) e = RowTold.answers (WantedAnswers.row_six (BadElement.bad_element e))
 
     answers : {k p : ℕ} → WantedAnswers c k p → RefusedWith (wanted_rows (wanted_check c.wanted) (kinds_of c) (length c.area)) k p
     answers (WantedAnswers.row_six (BadElement.bad_element {p} e)) =

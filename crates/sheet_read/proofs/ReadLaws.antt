@@ -12,11 +12,9 @@ use Rattle.format_items.specs.Items.{Items}
 use Rattle.format_grammar.specs.Check as formats
 use Rattle.format_items.specs.declared.FormatRefusal.{FormatRefusal}
 use Rattle.list_elements.specs.Elements.{Kind}
-use Rattle.list_elements.specs.Limits.{texts_length}
+use Rattle.list_elements.specs.Limits.{ListCheck, good, bad, texts_length}
 use Rattle.list_elements.specs.Apart.{kind_from}
 use Rattle.list_elements.specs.Contents.{Content}
-use Rattle.list_elements.specs.declared.ListCheck.{ListCheck}
-use Rattle.list_elements.specs.declared.ListCheck.TheVariants.{Good, Bad}
 use Rattle.sheet_walk.specs.Steps.{width_right}
 use Rattle.sheet_walk.specs.Promises.{WidthRight}
 use Rattle.sheet_walk.specs.Walk.{sheet, walk}
@@ -56,11 +54,11 @@ concluded_accepts (refused why) e = not_accepts e
 
 -- rows 6 and 13
 module _ (check : ListCheck) (kinds : List Kind) (room : ℕ) where
-  pub element_refuses : {p : ℕ} → check ≡ Bad p → wanted_rows check kinds room ≡ rows.refused (refusal.Element p)
+  pub element_refuses : {p : ℕ} → check ≡ bad p → wanted_rows check kinds room ≡ rows.refused (refusal.Element p)
   unfolding wanted_rows in_order
   element_refuses e = rw e
 
-  module _ (g : check ≡ Good) where
+  module _ (g : check ≡ good) where
     pub area_refuses : leb (texts_length kinds) room ≡ false → wanted_rows check kinds room ≡ rows.refused refusal.TextArea
     unfolding wanted_rows in_order
     area_refuses e = rw (g, e)
@@ -91,10 +89,10 @@ module _ (R : ℕ) (text : List ℕ) (check : ListCheck) (kinds : List ℕ) (roo
     format_refuses e = row_refuses (row.format_refuses R text wanted (length records / R) w e)
 
     module _ {xs : Items} (a : formats.outcome text ≡ formats.accepted xs) where
-      pub list_refuses : {p : ℕ} → check ≡ Bad p → {ms : List ℤ} {ds : List ℕ} → Did it kinds records (ending.Refused (refusal.Element p)) ms ds
+      pub list_refuses : {p : ℕ} → check ≡ bad p → {ms : List ℤ} {ds : List ℕ} → Did it kinds records (ending.Refused (refusal.Element p)) ms ds
       list_refuses e = row_refuses (row.list_refuses R text wanted (length records / R) w a (element_refuses check (map kind_from kinds) room e))
 
-      module _ (g : check ≡ Good) where
+      module _ (g : check ≡ good) where
         pub no_room : leb (texts_length (map kind_from kinds)) room ≡ false → {ms : List ℤ} {ds : List ℕ} → Did it kinds records (ending.Refused refusal.TextArea) ms ds
         no_room f = row_refuses (row.list_refuses R text wanted (length records / R) w a (area_refuses check (map kind_from kinds) room g f))
 

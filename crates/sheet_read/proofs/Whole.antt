@@ -6,15 +6,14 @@ use Prim.Native.Nat.{ℕ, ◌/◌, ◌≤◌}
 use native.Mathlib.Omega.{arith}
 use lib.IntN.{ℤ}
 use lib.ListN.{length, take, length-map}
+use Rattle.std.specs.Prelude.{Ok, Err}
 use Rattle.buffer.specs.Splice.{splice}
 use Rattle.format_grammar.specs.Check.{outcome}
 use Rattle.list_elements.specs.Elements.{Kind, values}
-use Rattle.list_elements.specs.Limits.{most_elements, wanted_check, texts_length}
+use Rattle.list_elements.specs.Limits.{ListCheck, good, most_elements, wanted_check, texts_length}
 use Rattle.list_elements.specs.Apart.{kind_number, kind_from, usable_count}
 use Rattle.list_elements.specs.Contents.{Content, texts_of, laid_texts, values_from, list_of}
 use Rattle.list_elements.specs.declared.List as carried
-use Rattle.list_elements.specs.declared.ListCheck.{ListCheck}
-use Rattle.list_elements.specs.declared.ListCheck.TheVariants.{Good, Bad}
 use Rattle.list_elements.proofs.ApartLaws.{kinds_of_lem}
 use Rattle.sheet_walk.specs.declared.Refusal.{Refusal}
 use Rattle.sheet_walk.specs.declared.Refusal.TheVariants.{Element}
@@ -56,18 +55,18 @@ given_few (ending.Accepted k) n = omega arith
 -- ---- the kinds taken
 
 -- the kinds of a bad list do not matter
-same_call : (R : ℕ) (format : List ℕ) (check : ListCheck) (ks js : List Kind) (room : ℕ) (records : List ℕ) → (check ≡ Good → ks ≡ js)
+same_call : (R : ℕ) (format : List ℕ) (check : ListCheck) (ks js : List Kind) (room : ℕ) (records : List ℕ) → (check ≡ good → ks ≡ js)
     → reading_of R format check ks room records ≡ reading_of R format check js room records
 unfolding reading_of wanted_rows in_order
-same_call R format Good ks js room records e = rw (e refl)
-same_call R format (Bad p) ks js room records e = after_refused refuses (bad_list R (Element p) (format_row (outcome format)) (length records / R)) _ _
+same_call R format (Ok u) ks js room records e = rw (e refl)
+same_call R format (Err p) ks js room records e = after_refused refuses (bad_list R (Element p.place) (format_row (outcome format)) (length records / R)) _ _
 
 module _ (c : Call) (check : ListCheck) (is : check ≡ wanted_check c.wanted) (kinds : List ℕ)
-    (taken : check ≡ Good → take c.wanted.count kinds ≡ map kind_number (values c.wanted)) (n : ℕ) (uses : n ≡ usable_count check c.wanted.count) where
+    (taken : check ≡ good → take c.wanted.count kinds ≡ map kind_number (values c.wanted)) (n : ℕ) (uses : n ≡ usable_count check c.wanted.count) where
   abbrev used : List ℕ
   used = take n kinds
 
-  kinds_are : check ≡ Good → map kind_from used ≡ kinds_of c
+  kinds_are : check ≡ good → map kind_from used ≡ kinds_of c
   kinds_are g =
       let e : n ≡ c.wanted.count = uses ∙ ap (λ k. usable_count k c.wanted.count) g in
       rw (e, taken g) (kinds_of_lem (values c.wanted))

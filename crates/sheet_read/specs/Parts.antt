@@ -2,9 +2,9 @@
 -- Assumes nothing.
 use Rattle.std.specs.Prelude.{◌≡◌, List, map, ℕ, ℤ}
 use Rattle.format_load.specs.Loaded.{RunHeld}
+use Rattle.list_elements.specs.Limits.{ListCheck}
 use Rattle.list_elements.specs.Apart.{kind_from}
 use Rattle.list_elements.specs.Contents.{Content}
-use Rattle.list_elements.specs.declared.ListCheck.{ListCheck}
 use Rattle.sheet_walk.specs.declared.Ending.{Ending}
 use Rattle.sheet_walk.specs.declared.Ending.TheVariants as ending
 use Rattle.read_passes.specs.Passes.{HeldSoFar}

@@ -3,11 +3,10 @@
 use Rattle.std.specs.Prelude.{◌≡◌, ◌↔◌, List, map, ℕ, ◌/◌, ◌<◌, ◌≤◌, length, take, drop, get_or, pos}
 use Rattle.format_items.specs.Items.{Field, Items}
 use Rattle.list_elements.specs.Elements.{Kind, kind_of, zero_value, empty_list, values}
-use Rattle.list_elements.specs.Limits.{most_elements, wanted_check, texts_length}
+use Rattle.list_elements.specs.Limits.{good, most_elements, wanted_check, texts_length}
 use Rattle.list_elements.specs.Contents.{Content, integer, content_of, texts_of, values_from, element_of}
 use Rattle.list_elements.specs.declared.Element.{Element}
 use Rattle.list_elements.specs.declared.List as carried
-use Rattle.list_elements.specs.declared.ListCheck.TheVariants.{Good}
 use Rattle.sheet_walk.specs.Refusals.{refusal_number, refusal_place}
 use Rattle.sheet_walk.specs.Steps.{element, Placement}
 use Rattle.sheet_walk.specs.Walk.{Trace, put, sheet, walk}
@@ -65,13 +64,13 @@ KindsOnly =
 
 -- the rows of the wanted elements, 6 and 13, are passed
 pub record WantedPass (c : Call) : Type 0 where
-  pub good : wanted_check c.wanted ≡ Good
+  pub good : wanted_check c.wanted ≡ good
   pub room : texts_length (kinds_of c) ≤ length c.area
 
 -- one of them answers with a number and a place
 pub data WantedAnswers (c : Call) : ℕ → ℕ → Type 0 where
   row_six : {k p : ℕ} → BadElement (wanted_check c.wanted) k p → WantedAnswers c k p
-  no_room : wanted_check c.wanted ≡ Good → length c.area < texts_length (kinds_of c) → WantedAnswers c 13 0
+  no_room : wanted_check c.wanted ≡ good → length c.area < texts_length (kinds_of c) → WantedAnswers c 13 0
 
 -- every row before the walk is passed, the format's items being xs
 abbrev pub Walks : Call → Items → Type 0

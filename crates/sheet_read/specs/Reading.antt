@@ -4,10 +4,9 @@
 use Rattle.std.specs.Prelude.{cond, List, [], ◌∷◌, map, ℕ, ◌/◌, leb, length}
 use Rattle.format_grammar.specs.Check.{outcome}
 use Rattle.list_elements.specs.Elements.{Kind, kind_of, empty_list, values}
-use Rattle.list_elements.specs.Limits.{wanted_check, texts_length}
+use Rattle.list_elements.specs.Limits.{ListCheck, wanted_check, texts_length}
 use Rattle.list_elements.specs.Contents.{Content, laid_texts, values_from, list_of}
 use Rattle.list_elements.specs.declared.List as carried
-use Rattle.list_elements.specs.declared.ListCheck.{ListCheck}
 use Rattle.sheet_walk.specs.Refusals.{refusal_number, refusal_place}
 use Rattle.sheet_walk.specs.declared.Refusal.{Refusal}
 use Rattle.sheet_walk.specs.declared.Refusal.TheVariants.{TextArea}

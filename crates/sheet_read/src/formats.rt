@@ -1,13 +1,15 @@
 // Under a format: loaded into arrays that are large enough for it. A local array is cleared at each call, so small ones are
 // tried first.
-ghost use Rattle.std.specs.Prelude.{◌≤◌, ◌<◌, ◌^◌, length};
+ghost use Rattle.std.specs.Prelude.{◌≤◌, ◌<◌, ◌^◌, length, IfSome, IfNone};
+ghost use Rattle.format_items.specs.Refusals.{longest_format};
+ghost use Rattle.format_items.specs.Size.{largest_size};
 ghost use Rattle.format_load.specs.Loaded.{SomeRun};
 ghost use Rattle.sheet_walk.specs.Promises.{WidthRight};
 ghost use Rattle.sheet_read.specs.Parts.{ReadRun, ReadText};
 
-use format_load::Loading;
+use format_load::LoadError;
 use format_load::load::load;
-use list_elements::ListCheck;
+use list_elements::BadElement;
 use list_elements::wanted::texts_fit;
 use read_passes::reading::read_pass;
 use sheet_walk::{Ending, Records, Refusal, WIDEST_RECORD};
@@ -19,7 +21,7 @@ fn read_loaded(
     words: &[u64],
     back: usize,
     chars: &[u8],
-    check: ListCheck,
+    check: Result<(), BadElement>,
     kinds: &[u64],
     room: usize,
     records: &[u8],
@@ -30,8 +32,8 @@ fn read_loaded(
     ensures { ReadRun width chars.now words.now back check kinds.now room records.now result amounts.new details.new }
 {
     match check {
-        ListCheck::Bad { place } => Ending::Refused(Refusal::Element { place }),
-        ListCheck::Good => {
+        Err(BadElement { place }) => Ending::Refused(Refusal::Element { place }),
+        Ok(()) => {
             if !texts_fit(kinds, room) {
                 return Ending::Refused(Refusal::TextArea);
             }
@@ -45,31 +47,34 @@ fn read_loaded(
     }
 }
 
-// With the largest arrays.
-fn read_large(
+// With arrays for a format of at most CHARS bytes that has a run of at most RUN words, for wanted elements that were checked;
+// `None` where they are too small for this format. Not inlined, so that the stack of a call holds the arrays of one size.
+#[inline(never)]
+fn read_within<const CHARS: usize, const RUN: usize>(
     width: usize,
     format: &[u8],
-    check: ListCheck,
+    check: Result<(), BadElement>,
     kinds: &[u64],
     room: usize,
     records: &[u8],
     amounts: &mut [i64],
     details: &mut [usize],
-) -> Ending
-    requires { WidthRight width × (length kinds.now < 2 ^ 32) × (length kinds.now ≤ length amounts.old) × (length kinds.now ≤ length details.old) }
-    ensures { ReadText width format.now check kinds.now room records.now result amounts.new details.new }
+) -> Option<Ending>
+    requires wanted { WidthRight width × (length kinds.now < 2 ^ 32) × (length kinds.now ≤ length amounts.old) × (length kinds.now ≤ length details.old) }
+    requires sizes { (CHARS ≤ longest_format) × (RUN ≤ largest_size) }
+    ensures read { IfSome result (λ ending. ReadText width format.now check kinds.now room records.now ending amounts.new details.new) }
+    ensures too_small { IfNone result (longest_format ≤ CHARS → largest_size ≤ RUN → ⊥) }
 {
-    let mut entries = [0u64; 1024];
-    let mut chars = [0u8; 1024];
-    let mut run = [0u64; 4096];
+    let mut entries = [0u64; CHARS];
+    let mut chars = [0u8; CHARS];
+    let mut run = [0u64; RUN];
     match load(format, &mut entries, &mut chars, &mut run) {
-        Loading::Refused(refusal) => Ending::Refused(Refusal::Format(refusal)),
-        // No format needs larger ones.
-        Loading::Larger => Ending::Refused(Refusal::NoRecord),
-        Loading::Run { end, back } => read_loaded(
+        Err(LoadError::TooSmall) => None,
+        Err(LoadError::Refused(refusal)) => Some(Ending::Refused(Refusal::Format(refusal))),
+        Ok(loaded) => Some(read_loaded(
             width,
-            &run[..end],
-            back,
+            &run[..loaded.end],
+            loaded.back,
             &chars,
             check,
             kinds,
@@ -77,81 +82,7 @@ fn read_large(
             records,
             amounts,
             details,
-        ),
-    }
-}
-
-// With arrays of middle size, or larger ones.
-fn read_middle(
-    width: usize,
-    format: &[u8],
-    check: ListCheck,
-    kinds: &[u64],
-    room: usize,
-    records: &[u8],
-    amounts: &mut [i64],
-    details: &mut [usize],
-) -> Ending
-    requires { WidthRight width × (length kinds.now < 2 ^ 32) × (length kinds.now ≤ length amounts.old) × (length kinds.now ≤ length details.old) }
-    ensures { ReadText width format.now check kinds.now room records.now result amounts.new details.new }
-{
-    let mut entries = [0u64; 256];
-    let mut chars = [0u8; 256];
-    let mut run = [0u64; 512];
-    match load(format, &mut entries, &mut chars, &mut run) {
-        Loading::Refused(refusal) => Ending::Refused(Refusal::Format(refusal)),
-        Loading::Larger => {
-            read_large(width, format, check, kinds, room, records, amounts, details)
-        }
-        Loading::Run { end, back } => read_loaded(
-            width,
-            &run[..end],
-            back,
-            &chars,
-            check,
-            kinds,
-            room,
-            records,
-            amounts,
-            details,
-        ),
-    }
-}
-
-// With small arrays, or larger ones: under any format, for wanted elements that were checked.
-fn read_small(
-    width: usize,
-    format: &[u8],
-    check: ListCheck,
-    kinds: &[u64],
-    room: usize,
-    records: &[u8],
-    amounts: &mut [i64],
-    details: &mut [usize],
-) -> Ending
-    requires { WidthRight width × (length kinds.now < 2 ^ 32) × (length kinds.now ≤ length amounts.old) × (length kinds.now ≤ length details.old) }
-    ensures { ReadText width format.now check kinds.now room records.now result amounts.new details.new }
-{
-    let mut entries = [0u64; 64];
-    let mut chars = [0u8; 64];
-    let mut run = [0u64; 64];
-    match load(format, &mut entries, &mut chars, &mut run) {
-        Loading::Refused(refusal) => Ending::Refused(Refusal::Format(refusal)),
-        Loading::Larger => {
-            read_middle(width, format, check, kinds, room, records, amounts, details)
-        }
-        Loading::Run { end, back } => read_loaded(
-            width,
-            &run[..end],
-            back,
-            &chars,
-            check,
-            kinds,
-            room,
-            records,
-            amounts,
-            details,
-        ),
+        )),
     }
 }
 
@@ -159,7 +90,7 @@ fn read_small(
 pub fn read_numbers(
     width: usize,
     format: &[u8],
-    check: ListCheck,
+    check: Result<(), BadElement>,
     kinds: &[u64],
     room: usize,
     records: &[u8],
@@ -176,5 +107,16 @@ pub fn read_numbers(
     if WIDEST_RECORD < width {
         return Ending::Refused(Refusal::RecordWidth);
     }
-    read_small(width, format, check, kinds, room, records, amounts, details)
+    if let Some(ending) = read_within::<64, 64>(
+        width, format, check, kinds, room, records, amounts, details,
+    ) {
+        return ending;
+    }
+    if let Some(ending) = read_within::<256, 512>(
+        width, format, check, kinds, room, records, amounts, details,
+    ) {
+        return ending;
+    }
+    // No format needs larger arrays.
+    read_within::<1024, 4096>(width, format, check, kinds, room, records, amounts, details).unwrap()
 }

@@ -7,6 +7,7 @@ use Prim.Native.Nat.{ℕ}
 use native.Mathlib.Omega.{arith}
 use borrow.Author.Tests.{eq-eqb, ne_eqb, eqb-true, eqb-false}
 use lib.Dec.{eqb}
+use Rattle.std.specs.Prelude.{Ok, Err}
 use Rattle.buffer.proofs.Tests.{no_way}
 use Rattle.format_items.specs.Items.{Items}
 use Rattle.format_items.specs.declared.FormatRefusal.{FormatRefusal}
@@ -15,9 +16,8 @@ use Rattle.format_grammar.specs.Promises as grammar
 use Rattle.format_grammar.specs.Promises.{Acceptable}
 use Rattle.format_grammar.proofs.Promises.{accepts_exactly, always_answered}
 use Rattle.format_grammar.proofs.Answering.{numbered, answered_only}
+use Rattle.list_elements.specs.Limits.{ListCheck, good}
 use Rattle.list_elements.specs.Elements.{Kind}
-use Rattle.list_elements.specs.declared.ListCheck.{ListCheck}
-use Rattle.list_elements.specs.declared.ListCheck.TheVariants.{Good, Bad}
 use Rattle.sheet_walk.specs.Steps.{width_right}
 use Rattle.sheet_walk.specs.Walk.{sheet, walk}
 use Rattle.sheet_walk.specs.Promises.{WidthRight}
@@ -71,9 +71,9 @@ module _ (R : ℕ) (text : List ℕ) (list : Row) (n : ℕ) where
 pub element_row_says : ElementRowSays
 element_row_says check = record { told = told_so check refl; passes_only = λ e. ap element_row e; answers_only = λ k p a. answers a }
   where
-    told_so : (k : ListCheck) → check ≡ k → RowTold (check ≡ Good) (BadElement check) (element_row k)
-    told_so Good e = RowTold.passes e
-    told_so (Bad p) e = RowTold.answers (BadElement.bad_element e)
+    told_so : (k : ListCheck) → check ≡ k → RowTold (check ≡ good) (BadElement check) (element_row k)
+    told_so (Ok u) e = RowTold.passes e
+    told_so (Err p) e = RowTold.answers (BadElement.bad_element e)
 
     answers : {k p : ℕ} → BadElement check k p → RefusedWith (element_row check) k p
     answers (BadElement.bad_element {p} e) = record { why = Element p; is = ap element_row e; number_is = refl; place_is = refl }

@@ -1,12 +1,11 @@
 -- What the theorems of proofs/RowLaws.antt say of the rows before the walk.
 -- Assumes nothing.
+use Rattle.list_elements.specs.Limits.{ListCheck, good, bad}
 use Rattle.std.specs.Prelude.{◌≡◌, List, ℕ, ◌<◌}
 use Rattle.format_items.specs.Items.{Items}
 use Rattle.format_grammar.specs.Check.{outcome}
 use Rattle.format_grammar.specs.Promises as grammar
 use Rattle.format_grammar.specs.Promises.{Acceptable}
-use Rattle.list_elements.specs.declared.ListCheck.{ListCheck}
-use Rattle.list_elements.specs.declared.ListCheck.TheVariants.{Good, Bad}
 use Rattle.sheet_walk.specs.Refusals.{refusal_number, refusal_place}
 use Rattle.sheet_walk.specs.Promises.{WidthRight}
 use Rattle.sheet_walk.specs.declared.Refusal.{Refusal}
@@ -31,7 +30,7 @@ pub data RowAnswers (R : ℕ) (text : List ℕ) (Passes : Type 0) (Answers : ℕ
 
 -- row 6 answers
 pub data BadElement (check : ListCheck) : ℕ → ℕ → Type 0 where
-  bad_element : {p : ℕ} → check ≡ Bad p → BadElement check 6 p
+  bad_element : {p : ℕ} → check ≡ bad p → BadElement check 6 p
 
 -- ---- the definition says the same
 
@@ -56,7 +55,7 @@ pub record Says (row : Row) (Passes : Type 0) (Answers : ℕ → ℕ → Type 0)
 
 -- row 6, by the list's check
 abbrev pub ElementRowSays : Type 0
-ElementRowSays = (check : ListCheck) → Says (element_row check) (check ≡ Good) (BadElement check)
+ElementRowSays = (check : ListCheck) → Says (element_row check) (check ≡ good) (BadElement check)
 
 -- the rows before the walk, whatever the list's rows are
 abbrev pub RowsSay : Type 1

@@ -1,10 +1,9 @@
 -- Document 01, 'Checks by place': the rows before the walk, once for every call that walks; and the walk under a format's text.
 -- Assumes nothing.
-use Rattle.std.specs.Prelude.{cond, List, [], ◌∷◌, ℕ, ◌/◌, eqb}
+use Rattle.std.specs.Prelude.{cond, List, [], ◌∷◌, ℕ, ◌/◌, eqb, Ok, Err}
 use Rattle.format_grammar.specs.Check as formats
+use Rattle.list_elements.specs.Limits.{ListCheck}
 use Rattle.list_elements.specs.Elements.{Kind}
-use Rattle.list_elements.specs.declared.ListCheck.{ListCheck}
-use Rattle.list_elements.specs.declared.ListCheck.TheVariants.{Good, Bad}
 use Rattle.sheet_walk.specs.Steps.{width_right}
 use Rattle.sheet_walk.specs.Walk.{Trace, sheet, walk}
 use Rattle.sheet_walk.specs.declared.Refusal.{Refusal}
@@ -37,8 +36,8 @@ format_row (formats.refused why) = refused (Format why)
 
 -- row 6, by the list's check
 abbrev pub element_row : ListCheck → Row
-element_row Good = passed
-element_row (Bad p) = refused (Element p)
+element_row (Ok u) = passed
+element_row (Err e) = refused (Element e.place)
 
 -- row 9, 'buffer, before the walk': 'no record', where there are n
 abbrev pub record_row : ℕ → Row

@@ -1,33 +1,16 @@
 -- Numerals of more than 18 digits, put in two parts.
 -- Assumes nothing.
 use mathlib.Core.Path.{◌≡◌, sym, ap, ◌∙◌}
-use mathlib.Core.List.{List, ◌++◌}
+use mathlib.Core.List.{List, ◌++◌, append_assoc}
 use Prim.Native.Nat.{ℕ, zero, suc, ◌+◌, ◌-◌, ◌*◌, ◌/◌, ◌%◌, ◌^◌, ◌<◌, ◌≤◌}
 use native.Mathlib.Nat.{add_comm, div-div-eq-div-mul, div-lt_iff_lt-mul, le-div_iff_mul-le}
 use native.Mathlib.Decide.{dec_lt}
 use native.Mathlib.Omega.{arith}
-use lib.ListN.{length, length-append}
 use lib.Pow.{pow-add}
-use Rattle.buffer.specs.Splice.{splice}
-use Rattle.buffer.proofs.Splicing.{splice_then}
-use Rattle.number.specs.Limits.{largest}
 use Rattle.number.specs.Digits.{digits_of, digit_count}
 use Rattle.number.proofs.PowerLaws.{ten_pos}
-use Rattle.number.proofs.DigitLaws.{length_digits, digit_count_least, digit_count_holds, digit_count_pos, count_more, count_found, digits_cut}
+use Rattle.number.proofs.DigitLaws.{digit_count_least, digit_count_holds, digit_count_pos, count_more, count_found, digits_cut}
 use Rattle.sheet_text.specs.Output.{decimal_digits}
-
-pub length_decimal_digits : (n : ℕ) → length (decimal_digits n) ≡ digit_count n
-unfolding decimal_digits
-length_decimal_digits n = length_digits (digit_count n) n
-
--- the digits as they are put
-pub small_put : (n at : ℕ) (d : List ℕ) {k : ℕ} {d₁ : List ℕ} → k ≡ digit_count n → d₁ ≡ splice d at (digits_of k n) → k ≤ 18 → (d₁ ≡ splice d at (decimal_digits n)) × (at + k ≡ at + length (decimal_digits n)) × (at + k ≤ at + 18)
-unfolding decimal_digits
-small_put n at d {k} {d₁} e q h = (q ∙ rw e, rw e (ap (λ (i : ℕ). at + i) (sym (length_digits (digit_count n) n))), omega arith)
-
--- the first digits of a u64 are few
-pub high_low : (n : ℕ) {p : ℕ} → p ≡ 10 ^ 18 → n < 2 ^ 64 → n / p ≤ largest
-high_low n {p} e h = let b : n / 10 ^ 18 < 19 = (div-lt_iff_lt-mul (ten_pos 18)).1 (omega arith) in rw e (omega arith)
 
 -- the digits in two parts
 digits_add : (a b m : ℕ) → digits_of (a + b) m ≡ digits_of a (m / 10 ^ b) ++ digits_of b m
@@ -69,10 +52,16 @@ module _ (n k : ℕ) (high : 10 ^ k ≤ n) where
   unfolding decimal_digits
   decimal_digits_parts = rw count_high (digits_add (digit_count (n / 10 ^ k)) k n ∙ ap (λ (l : List ℕ). digits_of (digit_count (n / 10 ^ k)) (n / 10 ^ k) ++ l) (sym (digits_cut k n)))
 
--- the two parts as they are put
-pub parts_put : (n at : ℕ) (d : List ℕ) {p end : ℕ} {d₁ d₂ : List ℕ} → largest < n → p ≡ 10 ^ 18 → at + 36 ≤ length d → d₁ ≡ splice d at (decimal_digits (n / p)) → end ≡ at + length (decimal_digits (n / p)) → end ≤ at + 18
-    → d₂ ≡ splice d₁ end (digits_of 18 (n % p)) → (d₂ ≡ splice d at (decimal_digits n)) × (end + 18 ≡ at + length (decimal_digits n)) × (end + 18 ≤ at + 36)
-parts_put n at d {p} {end} {d₁} {d₂} h q room e f g k =
-    let parts : decimal_digits n ≡ decimal_digits (n / p) ++ digits_of 18 (n % p) = rw q (decimal_digits_parts n 18 (omega arith)) in
-    let l : length (decimal_digits n) ≡ length (decimal_digits (n / p)) + 18 = ap length parts ∙ length-append (decimal_digits (n / p)) (digits_of 18 (n % p)) ∙ rw (length_digits 18 (n % p)) in
-    (rw parts (splice_then d d₁ d₂ at end (decimal_digits (n / p)) (digits_of 18 (n % p)) e k f (omega arith)), omega arith, omega arith)
+-- ---- the digits as they are put
+
+module _ (n : ℕ) {p : ℕ} (is : p ≡ 10 ^ 18) where
+  -- of more than 18 digits
+  module _ (high : 0 < n / p) where
+    large : 10 ^ 18 ≤ n
+    large = let h : 1 ≤ n / 10 ^ 18 = rw is at high in omega (arith, (le-div_iff_mul-le (ten_pos 18)).0 h)
+
+    pub digits_in_parts : (before : List ℕ) {first all : List ℕ} {k : ℕ} → k ≡ digit_count (n / p) → first ≡ before ++ digits_of k (n / p) → all ≡ first ++ digits_of 18 n → all ≡ before ++ decimal_digits n
+    unfolding decimal_digits
+    digits_in_parts before e f g =
+        g ∙ rw (f, e, append_assoc before (digits_of (digit_count (n / p)) (n / p)) (digits_of 18 n))
+        (ap (λ (l : List ℕ). before ++ l) (rw is (rw (← digits_cut 18 n) (sym (decimal_digits_parts n 18 large)))))

@@ -3,15 +3,18 @@
 use mathlib.Core.Path.{◌≡◌, refl, sym, ap, ◌∙◌}
 use mathlib.Core.List.{List, [], ◌∷◌, ◌++◌, append_assoc}
 use Prim.Native.Nat.{ℕ, zero, suc, ◌+◌, ◌*◌, ◌<◌, ◌≤◌}
-use native.Mathlib.Nat.{zero-mul, suc-mul, mul-le-mul_right}
+use native.Mathlib.Nat.{zero-mul, suc-mul, mul-suc, mul-le-mul_right}
 use native.Mathlib.Numerals.{add-one}
 use native.Mathlib.Omega.{arith}
-use lib.ListN.{length, take, drop, set, length-append, length-set, length-drop}
+use lib.ListN.{length, take, drop, set, length-append, length-drop}
 use lib.Seq.{drop-drop, take-append-le, drop-append-le}
 use Rattle.buffer.specs.Splice.{splice}
 use Rattle.buffer.proofs.Splicing.{splice_then, splice_nothing, splice_one, length_part}
+use Rattle.buffer.proofs.SpliceBytes.{length_splice}
+use borrow.Rule.Slice.PartMut.{put_mid}
 use Rattle.list_text.specs.Lines.{line_feed}
 use Rattle.sheet_text.specs.Output.{record_lines}
+use Rattle.sheet_text.proofs.PutLaws.{mid_splice}
 
 -- ---- one record more at the end
 
@@ -49,65 +52,39 @@ lines_front R (suc n) xs ys h =
 
 -- ---- the loop
 
--- i records were put, up to the offset `at`; the next starts at `from`
-pub record Listed (R count : ℕ) (s d₀ d : List ℕ) (from at i : ℕ) : Type 0 where
+-- i records were put
+pub record Listed (R count : ℕ) (s d₀ d : List ℕ) (i : ℕ) : Type 0 where
   pub room : count * R ≤ length s
   pub space : count * R + count ≤ length d₀
-  pub bound : i ≤ count
-  pub from_is : from ≡ i * R
-  pub at_is : at ≡ i * R + i
   pub is : d ≡ splice d₀ 0 (record_lines R i s)
-  pub same : length d ≡ length d₀
 
-pub listed_none : {R count : ℕ} {s d : List ℕ} → count * R ≤ length s → count * R + count ≤ length d → Listed R count s d d 0 0 0
+pub listed_none : {R count : ℕ} {s d : List ℕ} → count * R ≤ length s → count * R + count ≤ length d → Listed R count s d d 0
 unfolding record_lines
-listed_none {R} {count} {s} {d} a b =
-    record {
-      room = a;
-      space = b;
-      bound = omega arith;
-      from_is = sym (zero-mul R);
-      at_is = omega (arith, zero-mul R);
-      is = sym (splice_nothing d 0);
-      same = refl;
-    }
+listed_none {R} {count} {s} {d} a b = record { room = a; space = b; is = sym (splice_nothing d 0) }
 
-module _ {R count : ℕ} {s d₀ d : List ℕ} {from at i : ℕ} (w : Listed R count s d₀ d from at i) where
-  module _ (h : i < count) where
-    -- the next record is there
-    pub next_from : from + R ≤ length s
-    next_from = omega (arith, w.room, w.from_is, mul-le-mul_right R h, suc-mul i R)
+module _ {R count : ℕ} {s d₀ d : List ℕ} {i : ℕ} (w : Listed R count s d₀ d i) where
+  pub listed_more : i < count → length d ≡ length d₀ → {k : ℕ} {copied : List ℕ} → k ≡ R → copied ≡ take R (drop (i * R) s)
+      → Listed R count s d₀ (set (put_mid (i * (R + 1)) k d copied) (i * (R + 1) + R) line_feed) (i + 1)
+  listed_more h same {k} {copied} a b =
+      let at : ℕ = i * (R + 1) in
+      let part : List ℕ = take R (drop (i * R) s) in
+      let at_is : i * (R + 1) ≡ i * R + i = rw (add-one R) (mul-suc i R) in
+      let from : i * R + R ≤ length s = omega (arith, w.room, mul-le-mul_right R h, suc-mul i R) in
+      let end : i * (R + 1) + R + 1 ≤ length d₀ = omega (arith, w.space, at_is, mul-le-mul_right R h, suc-mul i R) in
+      let long : length (record_lines R i s) ≡ at = lines_long R i s (omega arith) ∙ sym at_is in
+      let wide : length part ≡ R = length_part s (i * R) R from in
+      let e : put_mid at k d copied ≡ splice d at part = rw b (mid_splice d at part (a ∙ sym wide)) in
+      let f : put_mid at k d copied ≡ splice d₀ 0 (record_lines R i s ++ part) = splice_then d₀ d (put_mid at k d copied) 0 at (record_lines R i s) part w.is e (omega arith) (omega arith) in
+      let q : length (record_lines R i s ++ part) ≡ at + R = length-append (record_lines R i s) part ∙ rw (long, wide) in
+      let kept : length (put_mid at k d copied) ≡ length d = ap length e ∙ length_splice d at part (omega arith) in
+      let g : set (put_mid at k d copied) (at + R) line_feed ≡ splice d₀ 0 ((record_lines R i s ++ part) ++ (line_feed ∷ [])) =
+      splice_then d₀ (put_mid at k d copied) (set (put_mid at k d copied) (at + R) line_feed) 0 (at + R) (record_lines R i s ++ part) (line_feed ∷ []) f
+      (splice_one (put_mid at k d copied) (at + R) line_feed (omega arith)) (omega arith) (omega arith) in
+      let n : (record_lines R i s ++ part) ++ (line_feed ∷ []) ≡ record_lines R (i + 1) s =
+      append_assoc (record_lines R i s) part (line_feed ∷ []) ∙ rw (add-one i) (sym (lines_more R i s)) in
+      record { room = w.room; space = w.space; is = g ∙ ap (splice d₀ 0) n }
 
-    -- and has room
-    pub next_at : at + R + 1 ≤ length d₀
-    next_at = omega (arith, w.space, w.at_is, mul-le-mul_right R h, suc-mul i R)
-
-    pub listed_more : {d₁ : List ℕ} → d₁ ≡ splice d at (take R (drop from s)) → length d₁ ≡ length d
-        → Listed R count s d₀ (set d₁ (at + R) line_feed) (from + R) (at + (R + 1)) (i + 1)
-    listed_more {d₁} e l =
-        let m : i * R ≤ length s = omega (arith, w.room, mul-le-mul_right R h, suc-mul i R) in
-        let long : length (record_lines R i s) ≡ at = lines_long R i s m ∙ sym w.at_is in
-        let part : length (take R (drop from s)) ≡ R = length_part s from R next_from in
-        let f : d₁ ≡ splice d₀ 0 (record_lines R i s ++ take R (drop from s)) =
-        splice_then d₀ d d₁ 0 at (record_lines R i s) (take R (drop from s)) w.is e (omega arith) (omega arith) in
-        let q : length (record_lines R i s ++ take R (drop from s)) ≡ at + R = length-append (record_lines R i s) (take R (drop from s)) ∙ rw (long, part) in
-        let g : set d₁ (at + R) line_feed ≡ splice d₀ 0 ((record_lines R i s ++ take R (drop from s)) ++ (line_feed ∷ [])) =
-        splice_then d₀ d₁ (set d₁ (at + R) line_feed) 0 (at + R) (record_lines R i s ++ take R (drop from s)) (line_feed ∷ []) f
-        (splice_one d₁ (at + R) line_feed (omega (arith, next_at, w.same))) (omega arith) (omega arith) in
-        let k : (record_lines R i s ++ take R (drop from s)) ++ (line_feed ∷ []) ≡ record_lines R (i + 1) s =
-        append_assoc (record_lines R i s) (take R (drop from s)) (line_feed ∷ []) ∙ rw (w.from_is, add-one i) (sym (lines_more R i s)) in
-        record {
-          room = w.room;
-          space = w.space;
-          bound = omega arith;
-          from_is = rw (add-one i, suc-mul i R) (omega (arith, w.from_is));
-          at_is = rw (add-one i, suc-mul i R) (omega (arith, w.at_is));
-          is = g ∙ ap (splice d₀ 0) k;
-          same = length-set d₁ (at + R) line_feed ∙ l ∙ w.same;
-        }
-
-  pub listed_all : count ≤ i → (d ≡ splice d₀ 0 (record_lines R count s)) × (at ≡ length (record_lines R count s)) × (at ≡ count * R + count)
-  listed_all h =
-      let e : i ≡ count = omega (arith, w.bound) in
-      let a : at ≡ count * R + count = rw (← e) w.at_is in
-      (w.is ∙ ap (λ (k : ℕ). splice d₀ 0 (record_lines R k s)) e, a ∙ sym (lines_long R count s w.room), a)
+  pub listed_all : count ≤ i → i ≤ count → (d ≡ splice d₀ 0 (record_lines R count s)) × (count * R + count ≡ length (record_lines R count s))
+  listed_all h g =
+      let e : i ≡ count = omega arith in
+      (w.is ∙ ap (λ (k : ℕ). splice d₀ 0 (record_lines R k s)) e, sym (lines_long R count s w.room))

@@ -1,29 +1,30 @@
 -- The whole output, from what its parts do.
 -- Assumes nothing.
 use mathlib.Core.Path.{◌≡◌, refl, sym, ap, ◌∙◌}
+use mathlib.Core.Bool.{false}
 use mathlib.Core.List.{List, [], ◌++◌}
-use Prim.Native.Nat.{ℕ, ◌+◌, ◌-◌, ◌*◌, ◌≤◌}
+use Prim.Native.Nat.{ℕ, ◌+◌, ◌*◌, ◌≤◌}
 use native.Mathlib.Omega.{arith}
-use lib.ListN.{length, take, drop, length-append}
-use lib.Seq.{drop-drop}
+use lib.ListN.{length, drop, length-append}
 use Rattle.buffer.specs.Splice.{splice}
 use Rattle.buffer.proofs.Splicing.{splice_then}
 use Rattle.list_elements.proofs.ContentLaws.{values_list}
 use Rattle.list_elements.specs.declared.Value.{Value}
+use Rattle.sheet_walk.specs.Steps.{width_right}
 use Rattle.sheet_walk.specs.Walk.{Trace}
 use Rattle.sheet_walk.specs.Laid.{written}
 use Rattle.sheet_walk.specs.Refusals.{refusal_number, refusal_place}
 use Rattle.sheet_walk.specs.declared.Refusal.{Refusal}
+use Rattle.sheet_walk.specs.declared.Refusal.TheVariants as refusal
 use Rattle.sheet_walk.specs.declared.Answer.{Answer}
 use Rattle.sheet_walk.specs.declared.Answer.TheVariants as answer
 use Rattle.sheet_walk.proofs.Windows.{AllFit}
 use Rattle.write_passes.specs.Placed.{characters, starred_in}
 use Rattle.sheet_write.specs.Writing.{Writing, accepts, refuses, answer_of, buffer_of}
 use Rattle.sheet_write.proofs.Promises.{placed_right}
-use Rattle.list_text.specs.Lines.{first_line, after_line}
-use Rattle.list_text.specs.ListText.{line_values}
-use Rattle.list_text.proofs.LineLaws.{line_is, after_is}
-use Rattle.list_text.proofs.ElementLaws.{part_rest}
+use Rattle.sheet_write.proofs.WriteLaws.{width_refuses}
+use Rattle.list_text.specs.Lines.{first_line}
+use Rattle.list_text.specs.ListText.{line_values, line_check}
 use Rattle.sheet_text.specs.FromListText.{writing_from, answer_from, buffer_from}
 use Rattle.sheet_text.specs.Input.{width_on, input_width, input_format, input_list}
 use Rattle.sheet_text.specs.Output.{record_lines, counts_line, refused_line}
@@ -31,29 +32,6 @@ use Rattle.sheet_text.specs.SheetOutput.{record_buffer, input_writing, sheet_out
 use Rattle.sheet_text.proofs.TextLaws.{call_of, text_called, text_reached}
 use Rattle.sheet_text.proofs.LineLaws.{lines_front}
 use Rattle.sheet_text.proofs.RecordLaws.{written_front, written_long}
-
--- ---- the input taken apart
-
--- the slices are the first line, the second, and what follows
-pub record Split (s : List ℕ) (first second end rest : ℕ) : Type 0 where
-  pub width_line : take first s ≡ first_line s
-  pub format_line : take (end - second) (drop second s) ≡ input_format s
-  pub list : take (length s - rest) (drop rest s) ≡ input_list s
-
-pub split : (s : List ℕ) {first second end rest : ℕ} → first ≡ 0 + length (first_line s) → drop second s ≡ drop (first + 1) s
-    → end ≡ second + length (first_line (drop second s)) → drop rest s ≡ drop (end + 1) s → Split s first second end rest
-split s {first} {second} {end} {rest} a b c d =
-    let f : first ≡ length (first_line s) = omega arith in
-    let g : drop second s ≡ after_line s = b ∙ rw f (after_is s) in
-    let h : end - second ≡ length (first_line (drop second s)) = omega arith in
-    let q : second + (length (first_line (drop second s)) + 1) ≡ end + 1 = omega arith in
-    let k : after_line (drop second s) ≡ drop (end + 1) s =
-    sym (after_is (drop second s)) ∙ drop-drop (length (first_line (drop second s)) + 1) second s ∙ ap (λ (n : ℕ). drop n s) q in
-    record {
-      width_line = rw f (line_is s);
-      format_line = rw h (line_is (drop second s)) ∙ ap first_line g;
-      list = part_rest s rest ∙ d ∙ sym k ∙ ap after_line g;
-    }
 
 -- ---- what writing did
 
@@ -68,6 +46,13 @@ pub did : (s before : List ℕ) {width : ℕ} {line format text : List ℕ} {r :
 did s before l w e f g a b =
     let x : _ = w ∙ ap width_on e in
     record { answers = a ∙ rw (x, f, g, l); bytes = b ∙ rw (x, f, g, l); is = b ∙ rw (x, f, g) }
+
+-- a first line that is no width is refused as the width 0
+pub no_width : (s before : List ℕ) → length before ≡ record_buffer → input_width s ≡ 0 → Did s before (answer.Refused refusal.RecordWidth) before
+no_width s before l e =
+    let right : width_right (input_width s) ≡ false = rw e in
+    let w = width_refuses (input_width s) (input_format s) (line_check (input_list s)) {area = input_list s} {vs = line_values (input_list s)} {before = before} right in
+    record { answers = rw l at w.answers; bytes = rw l at w.bytes; is = w.bytes }
 
 -- ---- a refused input
 

@@ -8,18 +8,17 @@ use native.Mathlib.Omega.{arith}
 use lib.IntN.{ℤ}
 use lib.ListN.{length, take}
 use lib.Seq.{length-take-le}
+use Rattle.std.specs.Prelude.{Ok, Err}
 use Rattle.format_grammar.specs.Check.{refused, outcome}
 use Rattle.format_items.specs.declared.FormatRefusal.{FormatRefusal}
 use Rattle.list_elements.specs.Elements.{kind_of, empty_list, values}
-use Rattle.list_elements.specs.Limits.{most_elements, within_limits, first_failing, check_values, list_check}
+use Rattle.list_elements.specs.Limits.{ListCheck, good, bad, most_elements, within_limits, first_failing, check_values, list_check}
 use Rattle.list_elements.specs.Apart.{Apart, SomeGood}
 use Rattle.list_elements.proofs.ApartLaws.{check_good}
 use Rattle.list_elements.specs.Contents.{list_of}
 use Rattle.list_elements.proofs.ContentLaws.{values_list}
 use Rattle.list_elements.specs.declared.Value.{Value}
 use Rattle.list_elements.specs.declared.List as carried
-use Rattle.list_elements.specs.declared.ListCheck.{ListCheck}
-use Rattle.list_elements.specs.declared.ListCheck.TheVariants.{Good, Bad}
 use Rattle.sheet_walk.specs.declared.Refusal.{Refusal}
 use Rattle.sheet_walk.specs.declared.Refusal.TheVariants.{RecordWidth, Format, Element}
 use Rattle.sheet_rows.specs.Rows.{Row, format_row, element_row, after_rows, records_in, walk_under}
@@ -56,7 +55,7 @@ writing_from_is =
 -- ---- a list that row 6 refuses
 
 -- what becomes of it: whatever its values and the buffer, it is refused
-pub bad_writing : (R : ℕ) (format : List ℕ) (p : ℕ) (vs : List Value) (B : ℕ) → writing_of R format (Bad p) vs B ≡ writing_of R format (Bad p) [] 0
+pub bad_writing : (R : ℕ) (format : List ℕ) (p : ℕ) (vs : List Value) (B : ℕ) → writing_of R format (bad p) vs B ≡ writing_of R format (bad p) [] 0
 unfolding writing_of
 bad_writing R format p vs B =
     ap (λ (w : Row). after_rows refuses w (walked vs (walk_under format (map kind_of vs) (records_in R B)))) (bad_same R (Element p) (format_row (outcome format)) (B / R) (0 / R))
@@ -69,7 +68,7 @@ pub data IsRefused : Writing → Type 0 where
 after_is_refused : {w : Row} (walk : Writing) → row.IsRefused w → IsRefused (after_rows refuses w walk)
 after_is_refused walk (row.IsRefused.refused_by why) = IsRefused.refused_by why
 
-pub bad_is_refused : (R : ℕ) (format : List ℕ) (p : ℕ) → IsRefused (writing_of R format (Bad p) [] 0)
+pub bad_is_refused : (R : ℕ) (format : List ℕ) (p : ℕ) → IsRefused (writing_of R format (bad p) [] 0)
 unfolding writing_of
 bad_is_refused R format p = after_is_refused _ (bad_list R (Element p) (format_row (outcome format)) (0 / R))
 
@@ -90,14 +89,14 @@ wrong_is_refused R why = after_is_refused (refuses RecordWidth) (wrong_format_re
 
 module _ (text : List ℕ) {k : ListCheck} {l : carried.List} (e : k ≡ line_check text) (q : l ≡ line_list text) where
   -- where row 6 passes, it has the values of the lines
-  module _ (g : k ≡ Good) where
+  module _ (g : k ≡ good) where
     list_is : l ≡ list_of (line_values text)
     list_is = q ∙ ap (λ x. list_given x (line_values text)) (sym e ∙ g)
 
     values_are : values l ≡ line_values text
     values_are = ap values list_is ∙ values_list (line_values text)
 
-    check_is : list_check text l ≡ Good
+    check_is : list_check text l ≡ good
     check_is = ap (list_check text) list_is ∙ text_list_check text ∙ sym e ∙ g
 
   -- it is good either way, being empty where row 6 refuses
@@ -106,8 +105,8 @@ module _ (text : List ℕ) {k : ListCheck} {l : carried.List} (e : k ≡ line_ch
   list_good = go k refl
     where
       go : (x : ListCheck) → k ≡ x → SomeGood l
-      go Good g = record { area = text; good = check_is g }
-      go (Bad p) g =
+      go (Ok u) g = record { area = text; good = check_is g }
+      go (Err p) g =
           let m : l ≡ empty_list = q ∙ ap (λ x. list_given x (line_values text)) (sym e ∙ g) in
           record { area = []; good = ap (list_check []) m }
 

@@ -11,8 +11,8 @@ use lib.Seq.{take_all, length-take-le}
 use Rattle.format_grammar.proofs.Promises.{outcome_long}
 use Rattle.format_items.specs.Refusals.{longest_format}
 use Rattle.format_items.specs.declared.FormatRefusal.TheVariants.{Length}
+use Rattle.list_elements.specs.Limits.{bad}
 use Rattle.list_elements.specs.declared.Value.{Value}
-use Rattle.list_elements.specs.declared.ListCheck.TheVariants.{Bad}
 use Rattle.sheet_walk.specs.Steps.{width_right}
 use Rattle.sheet_rows.specs.Rows.{in_order, rows_before}
 use Rattle.sheet_write.specs.Writing.{Writing, writing_of}
@@ -57,7 +57,7 @@ format_out R f g a b h k =
 
 -- ---- a list text that is too long
 
-list_out : (R : ℕ) (f a b : List ℕ) (p : ℕ) → line_check a ≡ Bad p → line_check b ≡ Bad p → out R f a ≡ out R f b
+list_out : (R : ℕ) (f a b : List ℕ) (p : ℕ) → line_check a ≡ bad p → line_check b ≡ bad p → out R f a ≡ out R f b
 unfolding out
 list_out R f a b p e g =
     rw (e, g, bad_writing R f p (line_values a) record_buffer, bad_writing R f p (line_values b) record_buffer)

@@ -2,7 +2,7 @@
 #![tactic(auto)]
 
 mod lines;
-mod numbers;
+mod records;
 pub mod sheet;
 mod width;
 pub mod writing;

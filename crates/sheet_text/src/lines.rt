@@ -1,58 +1,105 @@
-// The lines of the output. Each function answers the offset after what it puts.
-ghost use Rattle.std.specs.Prelude.{◌≡◌, ◌+◌, ◌*◌, ◌≤◌, length};
-ghost use Rattle.buffer.specs.Splice.{splice};
-ghost use Rattle.sheet_text.specs.Output.{record_lines, counts_line, refused_line};
+// The last line of the output.
+ghost use Rattle.std.specs.Prelude.{◌≡◌, ◌+◌, ◌≤◌, List, ℕ, [], ◌++◌, length, take};
+ghost use Rattle.number.specs.Digits.{digits_of};
+ghost use Rattle.sheet_text.specs.Output.{decimal_digits, counts_line, refused_line};
 
-use crate::numbers::put_number;
+use number::digits::digit_count;
+use number::powers::power_of_ten;
+use number::put::put_digits;
+use std::marker::Model;
 
-// The bytes of src.
-fn put_bytes(dst: &mut [u8], at: usize, src: &[u8]) -> usize
-    requires { at + length src.now ≤ length dst.old }
-    ensures { (dst.new ≡ splice dst.old at src.now) × (result ≡ at + length src.now) }
-{
-    let n = src.len();
-    buffer::copy(dst, at, src, 0, n);
-    at + n
+// A line with its line feed: at most 96 bytes.
+#[derive(Drop)]
+pub struct Line {
+    bytes: [u8; 96],
+    len: usize,
 }
 
-// The first records of this width, each and a line feed.
-pub fn put_records(dst: &mut [u8], width: usize, count: usize, records: &[u8]) -> usize
-    requires { (count * width ≤ length records.now) × (count * width + count ≤ length dst.old) }
-    ensures { (dst.new ≡ splice dst.old 0 (record_lines width count records.now)) × (result ≡ length (record_lines width count records.now)) × (result ≡ count * width + count) }
-{
-    let mut from: usize = 0;
-    let mut at: usize = 0;
-    let mut i: usize = 0;
-    while i < count {
-        buffer::copy(dst, at, records, from, width);
-        dst[at + width] = b'\n';
-        from += width;
-        at += width + 1;
-        i += 1;
+impl Model for Line {
+    ghost Value = { List ℕ };
+
+    ghost view = { λ l. take l.len l.bytes };
+
+    ghost invariant = { λ l. l.len ≤ 96 };
+}
+
+impl Line {
+    // The empty line.
+    fn new() -> Self
+        ensures { result ≡ [] }
+    {
+        Line {
+            bytes: [0; 96],
+            len: 0,
+        }
     }
-    at
-}
 
-// The last line of an accepted sheet.
-pub fn put_counts(dst: &mut [u8], at: usize, records: u64, starred: u64) -> usize
-    requires { at + 96 ≤ length dst.old }
-    ensures { (dst.new ≡ splice dst.old at (counts_line records starred)) × (result ≡ at + length (counts_line records starred)) × (result ≤ at + 96) }
-{
-    let mut end = put_bytes(dst, at, b"records ");
-    end = put_number(dst, end, records);
-    end = put_bytes(dst, end, b" starred ");
-    end = put_number(dst, end, starred);
-    put_bytes(dst, end, b"\n")
-}
+    fn push(&mut self, bytes: &[u8])
+        requires { length self.old + length bytes.now ≤ 96 }
+        ensures { self.new ≡ self.old ++ bytes.now }
+    {
+        let end = self.len + bytes.len();
+        self.bytes[self.len..end].copy_from_slice(bytes);
+        self.len = end;
+    }
 
-// The line of a refused sheet.
-pub fn put_refused(dst: &mut [u8], number: u64, place: u64) -> usize
-    requires { 96 ≤ length dst.old }
-    ensures { (dst.new ≡ splice dst.old 0 (refused_line number place)) × (result ≡ length (refused_line number place)) × (result ≤ 96) }
-{
-    let mut end = put_bytes(dst, 0, b"refused ");
-    end = put_number(dst, end, number);
-    end = put_bytes(dst, end, b" ");
-    end = put_number(dst, end, place);
-    put_bytes(dst, end, b"\n")
+    // The last k digits of n.
+    fn push_digits(&mut self, k: usize, n: u64)
+        requires { length self.old + k ≤ 96 }
+        ensures digits { self.new ≡ self.old ++ digits_of k n }
+        ensures len { length self.new ≡ length self.old + k }
+    {
+        let end = self.len + k;
+        put_digits(&mut self.bytes[self.len..end], n);
+        self.len = end;
+    }
+
+    // The digits of n with no leading zero. The last 18 of more than 18 are put by themselves, since no more are counted. (Not by
+    // `write!`: that answers a `Result`, and nothing says that it never fails.)
+    fn push_number(&mut self, n: u64)
+        requires { length self.old + 36 ≤ 96 }
+        ensures digits { self.new ≡ self.old ++ decimal_digits n }
+        ensures few { length self.new ≤ length self.old + 36 }
+    {
+        let high = n / power_of_ten(18);
+        if 0 < high {
+            self.push_digits(digit_count(high), high);
+            self.push_digits(18, n);
+        } else {
+            self.push_digits(digit_count(n), n);
+        }
+    }
+
+    // The last line of an accepted sheet.
+    pub fn counts(records: u64, starred: u64) -> Self
+        ensures { result ≡ counts_line records starred }
+    {
+        let mut line = Line::new();
+        line.push(b"records ");
+        line.push_number(records);
+        line.push(b" starred ");
+        line.push_number(starred);
+        line.push(b"\n");
+        line
+    }
+
+    // The line of a refused sheet.
+    pub fn refused(number: u64, place: u64) -> Self
+        ensures { result ≡ refused_line number place }
+    {
+        let mut line = Line::new();
+        line.push(b"refused ");
+        line.push_number(number);
+        line.push(b" ");
+        line.push_number(place);
+        line.push(b"\n");
+        line
+    }
+
+    pub fn as_bytes(&self) -> &[u8]
+        ensures bytes { result.now ≡ self.now }
+        ensures few { length result.now ≤ 96 }
+    {
+        &self.bytes[..self.len]
+    }
 }

@@ -1,17 +1,40 @@
 // The program's whole input to its whole output: the public call.
-ghost use Rattle.std.specs.Prelude.{◌≡◌, List, ℕ, ◌≤◌, length, take};
+ghost use Rattle.std.specs.Prelude.{◌≡◌, ◌+◌, List, ℕ, ◌≤◌, length, take};
 ghost use Rattle.buffer.specs.Splice.{splice};
+ghost use Rattle.sheet_walk.specs.Refusals.{refusal_number, refusal_place};
 ghost use Rattle.sheet_text.specs.FromListText.{buffer_from};
 ghost use Rattle.sheet_text.specs.Input.{input_width, input_format, input_list};
+ghost use Rattle.sheet_text.specs.Output.{refused_line};
 ghost use Rattle.sheet_text.specs.SheetOutput.{sheet_output};
 
-use crate::lines::{put_counts, put_records, put_refused};
+use crate::lines::Line;
+use crate::records::put_records;
 use crate::width::read_width;
 use crate::writing::write_list_text;
 use crate::{INPUT, OUTPUT, RECORD_BUFFER};
-use list_text::lines::{line_end, next_line};
-use sheet_walk::Answer;
+use list_text::lines::split_line;
 use sheet_walk::refusals::{number_of, place_of};
+use sheet_walk::{Answer, Refusal};
+
+// Puts a line from the offset `at` on, and answers the offset after it.
+fn put_line(output: &mut [u8; OUTPUT], at: usize, line: &Line) -> usize
+    requires { at + 96 ≤ length output.old }
+    ensures line { output.new ≡ splice output.old at line.now }
+    ensures end { result ≡ at + length line.now }
+    ensures few { result ≤ at + 96 }
+{
+    let bytes = line.as_bytes();
+    let end = at + bytes.len();
+    output[at..end].copy_from_slice(bytes);
+    end
+}
+
+// The line of a refused sheet.
+fn refusal_line(refusal: Refusal) -> Line
+    ensures { result ≡ refused_line (refusal_number refusal) (refusal_place refusal) }
+{
+    Line::refused(number_of(refusal), place_of(refusal) as u64)
+}
 
 // Puts the output for an input, any bytes, from the output buffer's first byte on, and answers its length. The records are
 // written into a buffer of their own first. The first INPUT bytes of a longer input have the output of the whole.
@@ -22,22 +45,19 @@ pub fn sheet(input: &[u8], records: &mut [u8; RECORD_BUFFER], output: &mut [u8; 
     ensures records { records.new ≡ buffer_from (input_width input.now) (input_format input.now) (input_list input.now) records.old }
     ensures whole { (whole : List ℕ) → input.now ≡ take INPUT whole → sheet_output input.now ≡ sheet_output whole }
 {
-    let first = line_end(input, 0);
-    let second = next_line(input, first);
-    let end = line_end(input, second);
-    let rest = next_line(input, end);
-    let width = read_width(&input[..first]);
-    match write_list_text(width, &input[second..end], &input[rest..], records) {
-        Answer::Refused(refusal) => {
-            let place = place_of(refusal);
-            put_refused(output, number_of(refusal), place as u64)
-        }
+    let (first, rest) = split_line(input);
+    let (format, list) = split_line(rest);
+    let Some(width) = read_width(first) else {
+        return put_line(output, 0, &refusal_line(Refusal::RecordWidth));
+    };
+    match write_list_text(width, format, list, records) {
+        Answer::Refused(refusal) => put_line(output, 0, &refusal_line(refusal)),
         Answer::Accepted {
             records: count,
             starred,
         } => {
             let at = put_records(output, width, count, records);
-            put_counts(output, at, count as u64, starred as u64)
+            put_line(output, at, &Line::counts(count as u64, starred as u64))
         }
     }
 }

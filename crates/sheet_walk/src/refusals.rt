@@ -10,7 +10,7 @@ pub fn number_of(refusal: Refusal) -> u64
 {
     match refusal {
         Refusal::RecordWidth => 1,
-        Refusal::Format(why) => format_items::refusal::number_of(why),
+        Refusal::Format(why) => why.number(),
         Refusal::Element { place: _ } => 6,
         Refusal::TextArea => 13,
         Refusal::NoRecord => 9,
@@ -29,7 +29,7 @@ pub fn place_of(refusal: Refusal) -> usize
 {
     match refusal {
         Refusal::RecordWidth => 0,
-        Refusal::Format(why) => format_items::refusal::place_of(why),
+        Refusal::Format(why) => why.place(),
         Refusal::Element { place } => place,
         Refusal::TextArea => 0,
         Refusal::NoRecord => 0,

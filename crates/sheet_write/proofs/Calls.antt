@@ -8,8 +8,7 @@ use Rattle.format_items.specs.Items.{Items}
 use Rattle.format_grammar.specs.Check.{outcome}
 use Rattle.format_grammar.proofs.Promises.{accepts_exactly}
 use Rattle.list_elements.specs.Elements.{kind_of}
-use Rattle.list_elements.specs.Limits.{list_check}
-use Rattle.list_elements.specs.declared.ListCheck.TheVariants.{Good}
+use Rattle.list_elements.specs.Limits.{good, list_check}
 use Rattle.sheet_walk.specs.Walk.{Trace}
 use Rattle.sheet_walk.specs.Laid.{written}
 use Rattle.sheet_walk.specs.Refusals.{refusal_number, refusal_place}
@@ -40,7 +39,7 @@ came_walk c xs w (Told.large l) = Came.refused (AnsweredBy.too_large w l)
 pub rows_said : (c : Call)
     → Says (rows_before c.R (format_row (outcome c.format)) (element_row (list_check c.area c.list)) (length c.buffer / c.R)) ((xs : Items) × Walks c xs) (RowBefore c)
 rows_said c =
-    rows_say c.R c.format (element_row (list_check c.area c.list)) (list_check c.area c.list ≡ Good) (BadElement (list_check c.area c.list))
+    rows_say c.R c.format (element_row (list_check c.area c.list)) (list_check c.area c.list ≡ good) (BadElement (list_check c.area c.list))
     (length c.buffer / c.R) (element_row_says (list_check c.area c.list))
 
 -- its walk

@@ -8,13 +8,11 @@ use lib.IntN.{ℤ}
 use lib.ListN.{length, take}
 use lib.Seq.{length-take-le}
 use Rattle.list_elements.specs.Elements.{values}
-use Rattle.list_elements.specs.Limits.{within_limits, list_check}
+use Rattle.list_elements.specs.Limits.{ListCheck, good, within_limits, list_check}
 use Rattle.list_elements.specs.Apart.{Apart, usable_count}
 use Rattle.list_elements.proofs.ApartLaws.{check_good}
 use Rattle.list_elements.specs.declared.Value.{Value}
 use Rattle.list_elements.specs.declared.List as carried
-use Rattle.list_elements.specs.declared.ListCheck.{ListCheck}
-use Rattle.list_elements.specs.declared.ListCheck.TheVariants.{Good}
 use Rattle.sheet_walk.specs.Answers.{answer_number, answer_place, answer_records, answer_starred}
 use Rattle.sheet_write.specs.Writing.{Writing, accepts, refuses, writing_of, answer_of, buffer_of, writing_number, writing_place, writing_records, writing_starred}
 use Rattle.sheet_write.specs.Parts.{ListedIf, Wrote}
@@ -24,7 +22,7 @@ use Rattle.sheet_walk.specs.declared.Answer.{Answer}
 
 module _ (area : List ℕ) (l : carried.List) (check : ListCheck) (is : check ≡ list_check area l) where
   module _ (kinds : List ℕ) (amounts : List ℤ) (details : List ℕ) (long : length kinds ≡ 64)
-      (apart : check ≡ Good → Apart (values l) (take l.count kinds) (take l.count amounts) (take l.count details)) where
+      (apart : check ≡ good → Apart (values l) (take l.count kinds) (take l.count amounts) (take l.count details)) where
     pub listed_if : {n : ℕ} → n ≡ usable_count check l.count → ListedIf check area (values l) (take n kinds) (take n amounts) (take n details)
     listed_if {n} e =
         record {

@@ -13,11 +13,10 @@ use Rattle.format_items.specs.Items.{Items}
 use Rattle.format_grammar.specs.Check as formats
 use Rattle.format_items.specs.declared.FormatRefusal.{FormatRefusal}
 use Rattle.format_load.specs.Loaded.{RunHeld}
+use Rattle.list_elements.specs.Limits.{ListCheck, good, bad}
 use Rattle.list_elements.specs.Elements.{Kind, kind_of}
 use Rattle.list_elements.proofs.ApartLaws.{kinds_from}
 use Rattle.list_elements.specs.declared.Value.{Value}
-use Rattle.list_elements.specs.declared.ListCheck.{ListCheck}
-use Rattle.list_elements.specs.declared.ListCheck.TheVariants.{Good, Bad}
 use Rattle.sheet_walk.specs.Walk.{Sheet, sheet, walk}
 use Rattle.sheet_walk.specs.Laid.{laid, blanked, written}
 use Rattle.sheet_walk.specs.Turns.{Roomy, sheet_of}
@@ -108,10 +107,10 @@ module _ (R : ℕ) (text : List ℕ) (check : ListCheck) {area : List ℕ} {vs :
     format_refuses e = row_refuses (row.format_refuses R text (element_row check) (length before / R) w e)
 
     module _ {xs : Items} (a : formats.outcome text ≡ formats.accepted xs) where
-      pub list_refuses : {p : ℕ} → check ≡ Bad p → Wrote R area vs before (writing_of R text check vs (length before)) (answer.Refused (refusal.Element p)) before
+      pub list_refuses : {p : ℕ} → check ≡ bad p → Wrote R area vs before (writing_of R text check vs (length before)) (answer.Refused (refusal.Element p)) before
       list_refuses e = row_refuses (row.list_refuses R text (element_row check) (length before / R) w a (ap element_row e))
 
-      module _ (g : check ≡ Good) where
+      module _ (g : check ≡ good) where
         pub no_record : length before / R ≡ 0 → Wrote R area vs before (writing_of R text check vs (length before)) (answer.Refused refusal.NoRecord) before
         no_record e = row_refuses (row.record-refuses R text (element_row check) (length before / R) w a (ap element_row g) e)
 

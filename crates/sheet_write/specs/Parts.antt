@@ -3,11 +3,9 @@
 -- Assumes nothing.
 use Rattle.std.specs.Prelude.{◌≡◌, List, ℕ, ◌^◌, ◌<◌, ℤ, length}
 use Rattle.format_load.specs.Loaded.{RunHeld}
-use Rattle.list_elements.specs.Limits.{first_bad}
+use Rattle.list_elements.specs.Limits.{ListCheck, good, first_bad}
 use Rattle.list_elements.specs.Apart.{Apart}
 use Rattle.list_elements.specs.declared.Value.{Value}
-use Rattle.list_elements.specs.declared.ListCheck.{ListCheck}
-use Rattle.list_elements.specs.declared.ListCheck.TheVariants.{Good}
 use Rattle.sheet_walk.specs.Walk.{walk}
 use Rattle.sheet_walk.specs.Turns.{sheet_of}
 use Rattle.sheet_walk.specs.declared.Records.{Records}
@@ -23,12 +21,12 @@ pub record SomeValuesReady (t area words kinds : List ℕ) (amounts : List ℤ) 
 -- a good list taken apart
 pub record Listed (area : List ℕ) (vs : List Value) (kinds : List ℕ) (amounts : List ℤ) (details : List ℕ) : Type 0 where
   pub apart : Apart vs kinds amounts details
-  pub good : first_bad area 0 vs ≡ Good
+  pub good : first_bad area 0 vs ≡ good
   pub few : length kinds < 2 ^ 32
 
 -- where the list's check is good
 pub record ListedIf (check : ListCheck) (area : List ℕ) (vs : List Value) (kinds : List ℕ) (amounts : List ℤ) (details : List ℕ) : Type 0 where
-  pub if_good : check ≡ Good → Listed area vs kinds amounts details
+  pub if_good : check ≡ good → Listed area vs kinds amounts details
 
 -- for some list of values
 pub record SomeListedIf (check : ListCheck) (area kinds : List ℕ) (amounts : List ℤ) (details : List ℕ) : Type 0 where

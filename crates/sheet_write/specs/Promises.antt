@@ -9,12 +9,11 @@ use Rattle.field_written.specs.Numeral as numeral
 use Rattle.field_written.specs.Promises.{AsWritten}
 use Rattle.format_items.specs.Items.{Field, Items}
 use Rattle.list_elements.specs.Elements.{kind_of, values}
-use Rattle.list_elements.specs.Limits.{list_check}
+use Rattle.list_elements.specs.Limits.{good, list_check}
 use Rattle.list_elements.specs.declared.Decimal.{Decimal}
 use Rattle.list_elements.specs.declared.Value.{Value}
 use Rattle.list_elements.specs.declared.Value.TheVariants as value
 use Rattle.list_elements.specs.declared.List as carried
-use Rattle.list_elements.specs.declared.ListCheck.TheVariants.{Good}
 use Rattle.sheet_walk.specs.Refusals.{refusal_number, refusal_place}
 use Rattle.sheet_walk.specs.Steps.{element, Placement}
 use Rattle.sheet_walk.specs.Walk.{Trace, put, done, stopped, sheet, walk}
@@ -63,11 +62,11 @@ buffer_after c = write_buffer c.R c.format c.list c.area c.buffer
 
 -- every row before the walk is passed, the format's items being xs
 abbrev pub Walks : Call → Items → Type 0
-Walks c xs = RowsPassed c.R c.format (list_check c.area c.list ≡ Good) (length c.buffer / c.R) xs
+Walks c xs = RowsPassed c.R c.format (list_check c.area c.list ≡ good) (length c.buffer / c.R) xs
 
 -- one of them answers with a number and a place
 abbrev pub RowBefore : Call → ℕ → ℕ → Type 0
-RowBefore c = RowAnswers c.R c.format (list_check c.area c.list ≡ Good) (BadElement (list_check c.area c.list)) (length c.buffer / c.R)
+RowBefore c = RowAnswers c.R c.format (list_check c.area c.list ≡ good) (BadElement (list_check c.area c.list)) (length c.buffer / c.R)
 
 -- the call's walk, under the items xs
 abbrev pub walk_of : Call → Items → Trace

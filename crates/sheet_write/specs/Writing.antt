@@ -4,10 +4,9 @@
 use Rattle.std.specs.Prelude.{List, map, ℕ, ◌/◌, length}
 use Rattle.format_grammar.specs.Check.{outcome}
 use Rattle.list_elements.specs.Elements.{kind_of, values}
-use Rattle.list_elements.specs.Limits.{list_check}
+use Rattle.list_elements.specs.Limits.{ListCheck, list_check}
 use Rattle.list_elements.specs.declared.Value.{Value}
 use Rattle.list_elements.specs.declared.List as carried
-use Rattle.list_elements.specs.declared.ListCheck.{ListCheck}
 use Rattle.sheet_walk.specs.Refusals.{refusal_number, refusal_place}
 use Rattle.sheet_walk.specs.Walk.{Trace}
 use Rattle.sheet_walk.specs.Laid.{written}

@@ -24,7 +24,7 @@ pub fn write_records(
     match check_pass(words, back, kinds, amounts, details, rs) {
         Ending::Refused(refusal) => Answer::Refused(refusal),
         Ending::Accepted { records } => {
-            buffer::fill(buffer, 0, records * rs.width, b' ');
+            buffer[..records * rs.width].fill(b' ');
             let starred = lay_pass(
                 buffer, words, back, chars, area, kinds, amounts, details, rs,
             );

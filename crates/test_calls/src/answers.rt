@@ -1,51 +1,32 @@
-// Answers as numbers.
-use crate::numbers::put;
-use format_check::FormatCheck;
-use list_elements::ListCheck;
+// Answers as numbers, by which C gets them.
+use format_check::FormatRefusal;
+use list_elements::{BadElement, List};
 use sheet_walk::Answer;
-use sheet_walk::refusals::{number_of, place_of};
 
-// A refusal's number, or 0, and its place.
-fn put_refusal(number: u64, place: usize, out: &mut [usize]) {
-    put(out, 0, number as usize);
-    put(out, 1, place);
-}
-
-fn put_counts(records: usize, starred: usize, out: &mut [usize]) {
-    put(out, 2, records);
-    put(out, 3, starred);
-}
-
-// Number, place, records, starred.
-pub fn put_answer(answer: Answer, out: &mut [usize]) {
+// Number, 0 where accepted; place, records, starred.
+pub fn answer_numbers(answer: Answer) -> [usize; 4] {
     match answer {
-        Answer::Accepted { records, starred } => {
-            put_refusal(0, 0, out);
-            put_counts(records, starred, out);
-        }
+        Answer::Accepted { records, starred } => [0, 0, records, starred],
         Answer::Refused(refusal) => {
-            put_refusal(number_of(refusal), place_of(refusal), out);
-            put_counts(0, 0, out);
+            let number = sheet_walk::refusals::number_of(refusal);
+            let place = sheet_walk::refusals::place_of(refusal);
+            [number as usize, place, 0, 0]
         }
     }
 }
 
 // Number and place.
-pub fn put_check(check: FormatCheck, out: &mut [usize]) {
+pub fn check_numbers(check: Result<(), FormatRefusal>) -> [usize; 2] {
     match check {
-        FormatCheck::Accepted => put_refusal(0, 0, out),
-        FormatCheck::Refused(refusal) => put_refusal(
-            format_check::refusal::number_of(refusal),
-            format_check::refusal::place_of(refusal),
-            out,
-        ),
+        Ok(()) => [0, 0],
+        Err(refusal) => [refusal.number() as usize, refusal.place()],
     }
 }
 
 // Number and place.
-pub fn put_list_check(check: ListCheck, out: &mut [usize]) {
+pub fn list_check_numbers(check: Result<List, BadElement>) -> [usize; 2] {
     match check {
-        ListCheck::Good => put_refusal(0, 0, out),
-        ListCheck::Bad { place } => put_refusal(6, place, out),
+        Ok(_) => [0, 0],
+        Err(BadElement { place }) => [6, place],
     }
 }

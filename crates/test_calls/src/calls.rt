@@ -1,5 +1,5 @@
-// The functions for C. A slice is passed as a pointer and a length.
-use crate::answers::{put_answer, put_check};
+// Writing, reading and the format check for C.
+use crate::answers::{answer_numbers, check_numbers};
 use crate::lists::{list_from, put_list};
 use crate::numbers::put;
 use format_check::check::check;
@@ -7,8 +7,7 @@ use sheet_read::read::read;
 use sheet_write::write::write;
 
 // Writes a list; number (0 accepted), place, records and starred go into `answer`.
-#[unsafe(no_mangle)]
-pub extern "C" fn test_write(
+pub fn test_write(
     width: usize,
     format: &[u8],
     shapes: &[usize],
@@ -20,13 +19,12 @@ pub extern "C" fn test_write(
 ) {
     let list = list_from(shapes, numbers, count);
     let written = write(width, format, list, area, buffer);
-    put_answer(written, answer);
+    put(&answer_numbers(written), answer);
 }
 
 // Reads the elements wanted; all slots of the list given go into `given_shapes` and `given_numbers`, and number, place,
 // records, starred and the list's count into `answer`.
-#[unsafe(no_mangle)]
-pub extern "C" fn test_read(
+pub fn test_read(
     width: usize,
     format: &[u8],
     shapes: &[usize],
@@ -40,15 +38,12 @@ pub extern "C" fn test_read(
 ) {
     let wanted = list_from(shapes, numbers, count);
     let given = read(width, format, wanted, area, records);
-    let list = given.list;
-    let reading = given.answer;
-    put_list(list, given_shapes, given_numbers);
-    put_answer(reading, answer);
-    put(answer, 4, list.count);
+    put_list(&given.list, given_shapes, given_numbers);
+    let [number, place, records, starred] = answer_numbers(given.answer);
+    put(&[number, place, records, starred, given.list.count], answer);
 }
 
 // Checks a format; number and place go into `answer`.
-#[unsafe(no_mangle)]
-pub extern "C" fn test_check(format: &[u8], answer: &mut [usize]) {
-    put_check(check(format), answer);
+pub fn test_check(format: &[u8], answer: &mut [usize]) {
+    put(&check_numbers(check(format)), answer);
 }

@@ -1,53 +1,33 @@
 // A list from the numbers of its slots, and back.
-ghost use Rattle.std.specs.Prelude.{◌<◌};
+use crate::numbers::put;
+use crate::slots::Slot;
+use list_elements::List;
 
-use crate::numbers::{get, get_signed, put, put_signed};
-use crate::values::{first_of, kind_of, len_of, number_of, value_from};
-use list_elements::{Element, List, Value};
-
-// The value in a slot.
-fn value_at(shapes: &[usize], numbers: &[i64], slot: usize) -> Value
-    requires { slot < 64 }
-{
-    let at = slot * 3;
-    value_from(
-        get(shapes, at),
-        get(shapes, at + 1),
-        get(shapes, at + 2),
-        get_signed(numbers, slot),
-    )
-}
-
-// The list of all slots, with this count.
+// The list of all slots, with this count. A number that is not there is 0. Never inlined, so that the compiler sees the list of
+// a caller lent nowhere, and copies it once less in each call that takes it.
+#[inline(never)]
 pub fn list_from(shapes: &[usize], numbers: &[i64], count: usize) -> List {
     let mut list = List::empty();
-    let mut i: usize = 0;
-    while i < List::MOST {
-        let value = value_at(shapes, numbers, i);
-        list.elements[i] = Element { value };
-        i += 1;
+    let mut shapes = shapes.iter().copied();
+    let mut numbers = numbers.iter().copied();
+    for element in list.elements.iter_mut() {
+        let mut part = || shapes.next().unwrap_or_default();
+        let slot = Slot {
+            shape: [part(), part(), part()],
+            number: numbers.next().unwrap_or_default(),
+        };
+        element.value = slot.into();
     }
     list.count = count;
     list
 }
 
-fn put_value(value: Value, slot: usize, shapes: &mut [usize], numbers: &mut [i64])
-    requires { slot < 64 }
-{
-    let at = slot * 3;
-    put(shapes, at, kind_of(value));
-    put(shapes, at + 1, first_of(value));
-    put(shapes, at + 2, len_of(value));
-    put_signed(numbers, slot, number_of(value));
-}
-
 // Puts all slots, those past the count too.
-pub fn put_list(list: List, shapes: &mut [usize], numbers: &mut [i64]) {
-    let mut i: usize = 0;
-    while i < List::MOST {
-        let e = list.elements[i];
-        let v = e.value;
-        put_value(v, i, shapes, numbers);
-        i += 1;
+pub fn put_list(list: &List, shapes: &mut [usize], numbers: &mut [i64]) {
+    for (element, shape) in list.elements.iter().zip(shapes.chunks_mut(3)) {
+        put(&Slot::from(element.value).shape, shape);
+    }
+    for (element, number) in list.elements.iter().zip(numbers) {
+        *number = Slot::from(element.value).number;
     }
 }

@@ -13,11 +13,10 @@ use lib.ListN.{length, get_or, take, drop, length-map, get_or-map}
 use Rattle.number.specs.Limits.{largest, most_places}
 use Rattle.number.specs.Rounding.{rounded_units, too_large}
 use Rattle.field_written.specs.Numeral.{Numeric, plain}
-use Rattle.field_written.specs.Written.{field, starred, decimal_field, put_decimal, after_decimal}
+use Rattle.field_written.specs.Written.{field, starred, decimal_field, put_decimal, decimal_part}
 use Rattle.field_written.specs.LogicalField.{logical_field}
 use Rattle.field_written.specs.TextField.{text_field}
-use Rattle.field_written.specs.declared.Put.TheVariants.{Shown, Starred}
-use Rattle.buffer.specs.Splice.{splice}
+use Rattle.std.specs.Prelude.{Ok}
 use Rattle.format_items.specs.Items.{Field}
 use Rattle.format_items.specs.Met.{Met}
 use Rattle.format_items.specs.MetRanges.{MetWithin}
@@ -35,7 +34,7 @@ use Rattle.sheet_walk.specs.Promises.{Suited}
 use Rattle.sheet_walk.specs.Turns.{what_of, Covering}
 use Rattle.sheet_walk.proofs.ItemLaws.{literal_length, covering_literal}
 use Rattle.write_passes.specs.Placed.{integer_of, decimal_of, logical_of, span_of, field_characters, field_starred, field_too_large, value_at, characters_of, starred_of}
-use Rattle.write_passes.specs.Passes.{what_too_large, put_stars, Placeable}
+use Rattle.write_passes.specs.Passes.{what_too_large, Placeable}
 use Rattle.write_passes.proofs.ValueLaws.{integer_data, decimal_data, logical_data, text_data}
 
 module _ {t area : List ℕ} {vs : List Value} {ks : List ℕ} {ms : List ℤ} {ds : List ℕ} {word i w : ℕ} (p : Placeable t area vs ks ms ds word i w) where
@@ -266,14 +265,10 @@ logical_bits z false e = rw e
 -- ---- the answer of writing a decimal that is not too large
 
 module _ (w d : ℕ) (u : ℤ) (s : ℕ) (small : too_large u s d ≡ false) where
-  pub put_stars_lem : put_stars (put_decimal plain w d u s) ≡ starred plain (Numeric.F d) w (rounded_units u s d)
+  pub decimal_answer : put_decimal plain w d u s ≡ Ok (starred plain (Numeric.F d) w (rounded_units u s d))
   unfolding put_decimal
-  put_stars_lem = rw small (go (starred plain (Numeric.F d) w (rounded_units u s d)))
-    where
-      go : (b : Bool) → put_stars (cond b Starred Shown) ≡ b
-      go true = refl
-      go false = refl
+  decimal_answer = rw small
 
-  pub put_bytes : (buffer : List ℕ) (at : ℕ) → after_decimal plain buffer at w d u s ≡ splice buffer at (decimal_field plain w d u s)
-  unfolding after_decimal
-  put_bytes buffer at = rw small
+  pub decimal_bytes : (part : List ℕ) → length part ≡ w → decimal_part plain part d u s ≡ decimal_field plain w d u s
+  unfolding decimal_part
+  decimal_bytes part l = rw (small, l)

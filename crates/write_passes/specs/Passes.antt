@@ -1,15 +1,12 @@
 -- What the two passes over the walk are given, as words and numbers, and what the checking pass answers. (Nothing here need be
 -- believed: the public call's contract does not speak of it.)
 -- Assumes nothing.
-use Rattle.std.specs.Prelude.{◌≡◌, Bool, true, false, List, map, ℕ, ℤ}
-use Rattle.field_written.specs.declared.Put.{Put}
-use Rattle.field_written.specs.declared.Put.TheVariants.{Shown, Starred, TooLarge}
+use Rattle.std.specs.Prelude.{◌≡◌, Bool, false, List, map, ℕ, ℤ}
 use Rattle.format_words.specs.Words.{met_of}
 use Rattle.list_elements.specs.Elements.{kind_of}
-use Rattle.list_elements.specs.Limits.{first_bad}
+use Rattle.list_elements.specs.Limits.{good, first_bad}
 use Rattle.list_elements.specs.Apart.{Apart}
 use Rattle.list_elements.specs.declared.Value.{Value}
-use Rattle.list_elements.specs.declared.ListCheck.TheVariants.{Good}
 use Rattle.sheet_walk.specs.Steps.{What, element, literal}
 use Rattle.sheet_walk.specs.Walk.{walk}
 use Rattle.sheet_walk.specs.Turns.{what_of, WordCovers, Loaded, sheet_of}
@@ -25,17 +22,11 @@ abbrev pub what_too_large : List Value → What → Bool
 what_too_large vs (element i f) = field_too_large f (value_at vs i)
 what_too_large vs (literal cs) = false
 
--- the answer of writing a decimal says that it is starred
-abbrev pub put_stars : Put → Bool
-put_stars Shown = false
-put_stars Starred = true
-put_stars TooLarge = false
-
 -- the item of a word, met where element i of a good list is the next one, covers w columns
 pub record Placeable (t area : List ℕ) (vs : List Value) (kinds : List ℕ) (amounts : List ℤ) (details : List ℕ) (word i w : ℕ) : Type 0 where
   pub on_walk : WordCovers t (map kind_of vs) word i w
   pub apart : Apart vs kinds amounts details
-  pub good : first_bad area 0 vs ≡ Good
+  pub good : first_bad area 0 vs ≡ good
 
 -- for some list
 pub record SomePlaceable (amounts : List ℤ) (details : List ℕ) (word i : ℕ) : Type 0 where
@@ -62,7 +53,7 @@ pub record SomePlaced (t area kinds : List ℕ) (amounts : List ℤ) (details : 
 pub record Ready (t area : List ℕ) (vs : List Value) (words kinds : List ℕ) (amounts : List ℤ) (details : List ℕ) (rs : Records) : Type 0 where
   pub loaded : Loaded t words kinds rs
   pub apart : Apart vs kinds amounts details
-  pub good : first_bad area 0 vs ≡ Good
+  pub good : first_bad area 0 vs ≡ good
 
 -- for some characters, area and list of values
 pub record SomeReady (words kinds : List ℕ) (amounts : List ℤ) (details : List ℕ) (rs : Records) : Type 0 where

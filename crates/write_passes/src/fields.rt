@@ -5,26 +5,14 @@ ghost use Rattle.format_words.specs.Words.{met_of};
 ghost use Rattle.list_elements.specs.declared.Value.{Value};
 ghost use Rattle.sheet_walk.specs.Turns.{what_of};
 ghost use Rattle.write_passes.specs.Placed.{characters_of, starred_of};
-ghost use Rattle.write_passes.specs.Passes.{what_too_large, put_stars, Placeable, Placed, SomePlaceable, SomePlaced};
+ghost use Rattle.write_passes.specs.Passes.{what_too_large, Placeable, Placed, SomePlaceable, SomePlaced};
 
-use field_written::Put;
 use field_written::decimal::write_decimal;
 use field_written::integer::write_integer;
 use field_written::logical::write_logical;
 use field_written::text::write_text;
 use format_words::{FIRST_BASE, KIND_A, KIND_AW, KIND_BASE, KIND_F, KIND_I, KIND_L, second_of};
 use list_elements::apart::truth;
-
-// Whether a decimal was starred.
-fn is_starred(put: Put) -> bool
-    ensures { result ≡ put_stars put }
-{
-    match put {
-        Put::Shown => false,
-        Put::Starred => true,
-        Put::TooLarge => false,
-    }
-}
 
 // Whether the value of element i is too large for the field of a word: only a decimal's can be.
 pub fn too_large(word: u64, amounts: &[i64], details: &[usize], i: usize) -> bool
@@ -55,39 +43,24 @@ pub fn put(
     ensures stars { (vs : List Value) → Placed chars.now area.now vs kinds.now amounts.now details.now word i width → result ≡ starred_of vs width (what_of (met_of chars.now word) i) }
     ensures bytes { (vs : List Value) → Placed chars.now area.now vs kinds.now amounts.now details.now word i width → dst.new ≡ splice dst.old at (characters_of area.now vs width (what_of (met_of chars.now word) i)) }
 {
+    let part = &mut dst[at..at + width];
     match word % KIND_BASE {
-        KIND_I => write_integer(dst, at, width, amounts[i]),
-        KIND_F => is_starred(write_decimal(
-            dst,
-            at,
-            width,
-            second_of(word),
-            amounts[i],
-            details[i],
-        )),
+        KIND_I => write_integer(part, amounts[i]),
+        // Not too large: what is placed is not.
+        KIND_F => write_decimal(part, second_of(word), amounts[i], details[i]).unwrap(),
         KIND_L => {
-            write_logical(dst, at, width, truth(amounts[i]));
+            write_logical(part, truth(amounts[i]));
             false
         }
         KIND_A | KIND_AW => {
-            write_text(
-                dst,
-                at,
-                width,
-                area,
-                details[i],
-                (kinds[i] / list_elements::LENGTH_BASE) as usize,
-            );
+            let start = details[i];
+            let len = (kinds[i] / list_elements::LENGTH_BASE) as usize;
+            write_text(part, &area[start..start + len]);
             false
         }
         _ => {
-            buffer::copy(
-                dst,
-                at,
-                chars,
-                (word / KIND_BASE % FIRST_BASE) as usize,
-                width,
-            );
+            let first = (word / KIND_BASE % FIRST_BASE) as usize;
+            part.copy_from_slice(&chars[first..first + width]);
             false
         }
     }

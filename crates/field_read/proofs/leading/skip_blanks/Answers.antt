@@ -1,15 +1,13 @@
+use mathlib.Core.Path.{sym, ◌∙◌}
 use native.Mathlib.Omega.{arith}
-use Rattle.field_read.proofs.Blanks.{skipping_none, skipping_more, skipping_stop}
+use Rattle.field_read.proofs.Blanks.{blank_front, other_front, nothing_front}
 use Rattle.field_read.proofs.leading.skip_blanks.Goals as goal
 
-pub loop-i-init : goal.loop-i-init
-loop-i-init c = skipping_none _
+pub loop-rest-preserved : goal.loop-rest-preserved
+loop-rest-preserved c = c.loop-rest.invariant ∙ blank_front c.loop-rest.rest.now c.in-32.len_at_least (omega arith)
 
-pub returns-then-part-i-ne32 : goal.returns-then-part-i-ne32
-returns-then-part-i-ne32 c = skipping_stop c.loop-i.invariant (λ _. c.if-part-i-ne32.true)
+pub returns-in_default : goal.returns-in_default
+returns-in_default c = sym (c.loop-rest.invariant ∙ nothing_front c.loop-rest.rest.now c.in_default.len_below)
 
-pub loop-i-preserved : goal.loop-i-preserved
-loop-i-preserved c = skipping_more c.loop-i.invariant c.loop-i-test.true c.if-part-i-ne32.false
-
-pub returns : goal.returns
-returns c = skipping_stop c.loop-i.invariant (λ h _. omega arith)
+pub returns-in_default-2 : goal.returns-in_default-2
+returns-in_default-2 c = sym (c.loop-rest.invariant ∙ other_front c.loop-rest.rest.now c.in_default.len_at_least (λ z. omega arith))

@@ -1,27 +1,22 @@
+use mathlib.Core.Path.{◌≡◌, sym, ap, ◌∙◌}
+use Prim.Native.Nat.{ℕ, ◌-◌, ◌<◌}
 use native.Mathlib.Omega.{arith}
-use mathlib.Core.Path.{sym, ◌∙◌}
-use lib.ListN.{get_or}
-use Rattle.number.proofs.DigitLaws.{digit_bounds}
-use Rattle.format_read.proofs.DigitSteps.{digits_none, digits_more, digits_three, digits_stop, digits_end}
+use lib.ListN.{get_or, take, drop, length-take}
+use lib.Seq.{get_or-take, get_or-drop}
+use Rattle.number.specs.Digits.{is_digit}
+use Rattle.format_read.proofs.DigitSteps.{digits_more}
 use Rattle.format_read.proofs.digits.read_number.Goals as goal
 
-pub loop-i-init : goal.loop-i-init
-loop-i-init c = digits_none _ _ c.requires
-
-pub returns-then-at-i : goal.returns-then-at-i
-returns-then-at-i c = digits_three c.loop-i.invariant c.if-at-i.true
-
-pub overflow_sub-b : goal.overflow_sub-b
-overflow_sub-b c = (digit_bounds _ (sym c.is_digit.ensures ∙ c.if-is_digit.true)).0
-
-pub overflow_add-value : goal.overflow_add-value
-overflow_add-value c = let k = digit_bounds (get_or c.args.text.now c.loop-i.i 0) (sym c.is_digit.ensures ∙ c.if-is_digit.true) in omega (arith, c.loop-i.invariant.small, k.1, c.wide.ensures)
-
-pub loop-i-preserved : goal.loop-i-preserved
-loop-i-preserved c = digits_more c.loop-i.invariant c.loop-i-test.true (omega (arith, c.if-at-i.false)) _ c.wide.ensures (sym c.is_digit.ensures ∙ c.if-is_digit.true)
-
-pub returns-else-is_digit : goal.returns-else-is_digit
-returns-else-is_digit c = digits_stop c.loop-i.invariant (sym c.is_digit.ensures ∙ c.if-is_digit.false)
-
-pub returns : goal.returns
-returns c = digits_end c.loop-i.invariant c.loop-i-test.false
+pub loop-b-preserved : goal.loop-b-preserved
+loop-b-preserved c =
+    let s = c.args.text.now in
+    let f = c.loop-b.invariant in
+    let i = c.loop-b.b-index in
+    let n = c.min-end.result - c.args.at in
+    let below : i < n = omega (arith, length-take n (drop c.args.at s), c.loop-b-test.true) in
+    let is : get_or (take n (drop c.args.at s)) i 0 ≡ get_or s c.loop-b.next 0
+    = get_or-take n (drop c.args.at s) i 0 below ∙ get_or-drop c.args.at s i 0 ∙ ap (λ (j : ℕ). get_or s j 0) (sym f.next_is) in
+    record {
+      digits = digits_more f.digits (omega arith) (omega arith) _ (c.from.ensures ∙ ap (λ (z : ℕ). z - 48) is) (ap is_digit (sym is) ∙ sym c.is_ascii_digit.ensures.value ∙ c.if-not-is_ascii_digit.false);
+      next_is = omega arith;
+    }

@@ -1,18 +1,32 @@
+use mathlib.Core.Path.{◌≡◌, ap, ◌∙◌}
 use native.Mathlib.Omega.{arith}
-use Rattle.format_read.proofs.WholeSteps.{whole_empty, whole_other, whole_wrong, whole_more, whole_read}
+use Rattle.std.specs.Prelude.{Some, slice_get}
+use Rattle.std.proofs.lemmas.Grind.{common_steps}
+use Rattle.std.proofs.lemmas.Option.{gets, slice_get-get_or, slice_get_within, get_or_from_slice_get}
+use Rattle.format_read.proofs.SingleSteps.{passed_on}
+use Rattle.format_read.proofs.WholeSteps.{whole_other, whole_wrong, whole_more, whole_read}
 use Rattle.format_read.proofs.format.read_format.Goals as goal
 
-pub returns-then-text-eq0 : goal.returns-then-text-eq0
-returns-then-text-eq0 c = whole_empty _ (omega (arith, c.if-text-eq0.true))
+pub returns-then-ne : goal.returns-then-ne
+returns-then-ne c =
+    let s = c.args.text.now in
+    let no : slice_get s 0 ≡ Some 40 → ⊥ = grind (arith, common_steps, gets) in
+    whole_other s (λ h e. no (slice_get-get_or s 0 0 h ∙ ap Some e))
 
-pub returns-then-text-ne40 : goal.returns-then-text-ne40
-returns-then-text-ne40 c = whole_other _ (omega (arith, c.if-text-eq0.false)) c.if-text-ne40.true
+pub returns-in_err-after : goal.returns-in_err-after
+returns-in_err-after c =
+    let s = c.args.text.now in
+    let is : slice_get s 0 ≡ Some 40 = grind (arith, common_steps, gets) in
+    rw (passed_on c.from_residual.ensures.1) (whole_wrong s (slice_get_within s 0 40 is) (get_or_from_slice_get s 0 40 0 is) c.in_err-after.ensures)
 
-pub returns-then-next-text : goal.returns-then-next-text
-returns-then-next-text c = whole_more _ (omega (arith, c.if-text-eq0.false)) c.if-text-ne40.false (rw c.in-Read.is at c.read_items.ensures) c.if-next-text.true
+pub returns-then-after-text : goal.returns-then-after-text
+returns-then-after-text c =
+    let s = c.args.text.now in
+    let is : slice_get s 0 ≡ Some 40 = grind (arith, common_steps, gets) in
+    whole_more s (slice_get_within s 0 40 is) (get_or_from_slice_get s 0 40 0 is) c.in_ok-after.ensures c.if-after-text.true
 
-pub returns-in-Wrong : goal.returns-in-Wrong
-returns-in-Wrong c = whole_wrong _ (omega (arith, c.if-text-eq0.false)) c.if-text-ne40.false (rw c.in-Wrong.is at c.read_items.ensures)
-
-pub returns-else-next-text : goal.returns-else-next-text
-returns-else-next-text c = whole_read _ (omega (arith, c.if-text-eq0.false)) c.if-text-ne40.false (rw c.in-Read.is at c.read_items.ensures) c.if-next-text.false
+pub returns : goal.returns
+returns c =
+    let s = c.args.text.now in
+    let is : slice_get s 0 ≡ Some 40 = grind (arith, common_steps, gets) in
+    whole_read s (slice_get_within s 0 40 is) (get_or_from_slice_get s 0 40 0 is) c.in_ok-after.ensures c.if-after-text.false

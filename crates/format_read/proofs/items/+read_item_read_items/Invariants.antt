@@ -9,8 +9,8 @@ decreases-read_item l = l.level * 2
 abbrev pub decreases-read_items : goal.decreases-read_items
 decreases-read_items l = l.level * 2 + 1
 
-abbrev pub invariant-read_items-loop-place : goal.invariant-read_items-loop-place
-invariant-read_items-loop-place l = SoFar l.text l.level l.initial.p l.initial.entries l.initial.chars l.p l.entries l.chars
+abbrev pub invariant-read_items-loop-after : goal.invariant-read_items-loop-after
+invariant-read_items-loop-after l = SoFar l.text l.level l.initial.p l.initial.entries l.initial.chars l.p l.entries l.chars
 
-abbrev pub decreases-read_items-loop-place : goal.decreases-read_items-loop-place
-decreases-read_items-loop-place l = length l.text - l.p.at
+abbrev pub decreases-read_items-loop-after : goal.decreases-read_items-loop-after
+decreases-read_items-loop-after l = length l.text - l.p.at

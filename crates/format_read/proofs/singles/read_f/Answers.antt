@@ -1,19 +1,34 @@
+use mathlib.Core.Path.{◌≡◌, ap, ◌∙◌}
 use native.Mathlib.Omega.{arith}
-use Rattle.format_grammar.specs.Reading.{Use}
-use Rattle.format_read.proofs.SingleSteps.{number_last, decimal_missing, decimal_no_point, decimal_no_places, decimal_read}
+use Rattle.std.specs.Prelude.{Some, slice_get}
+use Rattle.std.proofs.lemmas.Grind.{common_steps}
+use Rattle.std.proofs.lemmas.Option.{gets, slice_get-get_or, slice_get_within, get_or_from_slice_get}
+use Rattle.format_read.proofs.SingleSteps.{passed_on, absent, decimal_missing, decimal_no_point, decimal_no_places, decimal_read}
 use Rattle.format_read.proofs.singles.read_f.Goals as goal
 
-pub returns-then-point-at : goal.returns-then-point-at
-returns-then-point-at c = λ k rep. decimal_missing c.read_number-m.ensures k c.if-point-at.true
+pub returns-in_err-width : goal.returns-in_err-width
+returns-in_err-width c =
+    let m = c.read_number-m in
+    let a = absent m.result.value c.in_err-width.ensures.value in
+    λ k rep. rw (passed_on c.from_residual.ensures.1, a.1) (decimal_missing (rw a.0 at m.ensures) k)
 
-pub returns-then-text-point : goal.returns-then-text-point
-returns-then-text-point c = λ k rep. number_last c.read_number-m.ensures (Use.width_f k) c.if-text-point.true
+pub returns-then-ne : goal.returns-then-ne
+returns-then-ne c =
+    let p = c.read_number-m.result.next in
+    let no : slice_get c.args.text.now p ≡ Some 46 → ⊥ = grind (arith, common_steps, gets) in
+    λ k rep. decimal_no_point (rw c.in_ok-width.ensures.ok_part at c.read_number-m.ensures) k (λ h e. no (slice_get-get_or c.args.text.now p 0 h ∙ ap Some e))
 
-pub returns-then-text-point-ne46 : goal.returns-then-text-point-ne46
-returns-then-text-point-ne46 c = λ k rep. decimal_no_point c.read_number-m.ensures k c.if-point-at.false c.if-text-point-ne46.true
-
-pub returns-then-next-start : goal.returns-then-next-start
-returns-then-next-start c = λ k rep. decimal_no_places c.read_number-m.ensures k c.if-point-at.false (omega (arith, c.if-text-point.false)) c.if-text-point-ne46.false c.read_number-f.ensures c.if-next-start.true
+pub returns-in_err-places : goal.returns-in_err-places
+returns-in_err-places c =
+    let p = c.read_number-m.result.next in
+    let is : slice_get c.args.text.now p ≡ Some 46 = grind (arith, common_steps, gets) in
+    let n = c.read_number-n in
+    let a = absent n.result.value c.in_err-places.ensures.value in
+    λ k rep. rw (passed_on c.from_residual-in_err-places.ensures.1, a.1)
+    (decimal_no_places (rw c.in_ok-width.ensures.ok_part at c.read_number-m.ensures) k (slice_get_within c.args.text.now p 46 is) (get_or_from_slice_get c.args.text.now p 46 0 is) (rw a.0 at n.ensures))
 
 pub returns : goal.returns
-returns c = λ k rep. decimal_read c.read_number-m.ensures k c.if-point-at.false (omega (arith, c.if-text-point.false)) c.if-text-point-ne46.false c.read_number-f.ensures c.if-next-start.false _ rep c.requires.2 _ _ _ c.first_outside-o.ensures c.first_outside.ensures
+returns c =
+    let p = c.read_number-m.result.next in
+    let is : slice_get c.args.text.now p ≡ Some 46 = grind (arith, common_steps, gets) in
+    λ k rep. decimal_read (rw c.in_ok-width.ensures.ok_part at c.read_number-m.ensures) k (slice_get_within c.args.text.now p 46 is) (get_or_from_slice_get c.args.text.now p 46 0 is) (rw c.in_ok-places.ensures.ok_part at c.read_number-n.ensures) _ rep c.requires.2 _ _ _ c.first_outside-o.ensures c.first_outside.ensures

@@ -1,38 +1,59 @@
-use mathlib.Core.Path.{refl, sym}
-use Rattle.format_grammar.specs.Reading.{Use, written}
-use Rattle.format_read.proofs.SingleSteps.{ends-I, ends-L}
-use Rattle.format_read.proofs.BegunSteps.{begun_read}
+use mathlib.Core.Path.{refl, sym, ◌∙◌}
+use native.Mathlib.Omega.{arith}
+use Rattle.std.specs.Prelude.{Ok}
+use Rattle.format_items.specs.Items.{Repeat}
+use Rattle.format_grammar.specs.Reading.{Use}
+use Rattle.format_read.specs.Steps.{number_at}
+use Rattle.format_read.proofs.SingleSteps.{times_at, passed_on, absent, ends-I, ends-L, ends-T}
+use Rattle.format_read.proofs.BegunSteps.{begun_read, begun_stuck, begun_other, slash_read, X-read, T-read, T-after_digits}
 use Rattle.format_read.proofs.singles.read_single.Goals as goal
 
-pub returns-then-b-eq73 : goal.returns-then-b-eq73
-returns-then-b-eq73 c =
-    let k = written c.args.from c.args.at c.args.value in
-    begun_read c.requires.number_found c.requires.at_in_bounds.0 k refl (Use.width_i k) (λ l xs q. rw c.if-b-eq73.true) _ _ c.outside_of-o.ensures c.read_one.result
-    (c.read_one.ensures (Use.width_i k) k (sym c.repeat_of-r.ensures.0) (ends-I k))
+pub returns-in-73 : goal.returns-in-73
+returns-in-73 c =
+    let k = number_at c.args.p.at c.args.m.value in
+    begun_read c.requires.number_found c.requires.at_in_bounds.0 (Use.width_i k) (λ l xs q. rw c.in-73.is) _ _ c.outside_of-outside.ensures c.read_one.result
+    (c.read_one.ensures (Use.width_i k) k (times_at c.args.p.at c.args.m.value ∙ sym c.unwrap_or-repeat.ensures) (ends-I k))
 
-pub returns-then-b-eq70 : goal.returns-then-b-eq70
-returns-then-b-eq70 c =
-    let k = written c.args.from c.args.at c.args.value in
-    begun_read c.requires.number_found c.requires.at_in_bounds.0 k refl (Use.width_f k) (λ l xs q. rw c.if-b-eq70.true) _ _ c.outside_of-o.ensures c.read_f.result
-    (c.read_f.ensures k (sym c.repeat_of-r.ensures.0))
+pub returns-in-70 : goal.returns-in-70
+returns-in-70 c =
+    let k = number_at c.args.p.at c.args.m.value in
+    begun_read c.requires.number_found c.requires.at_in_bounds.0 (Use.width_f k) (λ l xs q. rw c.in-70.is) _ _ c.outside_of-outside.ensures c.read_f.result
+    (c.read_f.ensures k (times_at c.args.p.at c.args.m.value ∙ sym c.unwrap_or-repeat.ensures))
 
-pub returns-then-b-eq76 : goal.returns-then-b-eq76
-returns-then-b-eq76 c =
-    let k = written c.args.from c.args.at c.args.value in
-    begun_read c.requires.number_found c.requires.at_in_bounds.0 k refl (Use.width_l k) (λ l xs q. rw c.if-b-eq76.true) _ _ c.outside_of-o.ensures c.read_one-then-b-eq76.result
-    (c.read_one-then-b-eq76.ensures (Use.width_l k) k (sym c.repeat_of-r.ensures.0) (ends-L k))
+pub returns-in-76 : goal.returns-in-76
+returns-in-76 c =
+    let k = number_at c.args.p.at c.args.m.value in
+    begun_read c.requires.number_found c.requires.at_in_bounds.0 (Use.width_l k) (λ l xs q. rw c.in-76.is) _ _ c.outside_of-outside.ensures c.read_one-in-76.result
+    (c.read_one-in-76.ensures (Use.width_l k) k (times_at c.args.p.at c.args.m.value ∙ sym c.unwrap_or-repeat.ensures) (ends-L k))
 
-pub returns-then-b-eq65 : goal.returns-then-b-eq65
-returns-then-b-eq65 c =
-    let k = written c.args.from c.args.at c.args.value in
-    begun_read c.requires.number_found c.requires.at_in_bounds.0 k refl (Use.width_a k) (λ l xs q. rw c.if-b-eq65.true) _ _ c.outside_of-o.ensures c.read_a.result
-    (c.read_a.ensures k (sym c.repeat_of-r.ensures.0))
+pub returns-in-65 : goal.returns-in-65
+returns-in-65 c =
+    let k = number_at c.args.p.at c.args.m.value in
+    begun_read c.requires.number_found c.requires.at_in_bounds.0 (Use.width_a k) (λ l xs q. rw c.in-65.is) _ _ c.outside_of-outside.ensures (Ok c.read_a.result)
+    (c.read_a.ensures k (times_at c.args.p.at c.args.m.value ∙ sym c.unwrap_or-repeat.ensures))
 
-pub read_move-requires : goal.read_move-requires
-read_move-requires c = record {
-  number_found = c.requires.number_found;
-  at_in_bounds = (c.requires.at_in_bounds.0, c.requires.at_in_bounds.1, c.requires.at_in_bounds.2, record { no-I = c.if-b-eq73.false; no-F = c.if-b-eq70.false; no-L = c.if-b-eq76.false; no-A = c.if-b-eq65.false });
-}
+pub returns-then-is_some : goal.returns-then-is_some
+returns-then-is_some c = T-after_digits c.requires.number_found c.requires.at_in_bounds.0 c.in-84.is (sym c.if-is_some.ensures)
 
-pub returns : goal.returns
-returns c = c.read_move.ensures
+pub returns-else-is_some : goal.returns-else-is_some
+returns-else-is_some c =
+    T-read c.requires.number_found c.requires.at_in_bounds.0 c.in-84.is (sym c.if-is_some.ensures) _ _ c.outside_of-outside.ensures c.read_one-in-84.result
+    (c.read_one-in-84.ensures Use.column Repeat.absent refl ends-T)
+
+pub returns-in_err-count-in-88 : goal.returns-in_err-count-in-88
+returns-in_err-count-in-88 c =
+    let a = absent c.args.m.value c.in_err-count-in-88.ensures.value in
+    rw (passed_on c.from_residual.ensures.1, a.1)
+    (begun_stuck (rw a.0 at c.requires.number_found) c.requires.at_in_bounds.0 (λ l xs q. rw c.in-88.is))
+
+pub returns-in_ok-count-in-88 : goal.returns-in_ok-count-in-88
+returns-in_ok-count-in-88 c =
+    let e = c.in_ok-count-in-88.ensures.ok_part in
+    X-read (rw e at c.requires.number_found) c.requires.at_in_bounds.0 c.in-88.is _ _ (rw e at c.outside_of-outside.ensures)
+
+pub returns-in-47 : goal.returns-in-47
+returns-in-47 c = slash_read c.requires.number_found c.requires.at_in_bounds.0 c.in-47.is _ c.unwrap_or-repeat.ensures _ _ c.outside_of-outside.ensures
+
+pub returns-in_default : goal.returns-in_default
+returns-in_default c =
+    begun_other c.requires.number_found c.requires.at_in_bounds.0 c.requires.at_in_bounds.2 (λ e. omega arith) (λ e. omega arith) (λ e. omega arith) (λ e. omega arith) (λ e. omega arith) (λ e. omega arith) (λ e. omega arith)

@@ -19,22 +19,22 @@ full c =
 pub loop-i-init : goal.loop-i-init
 loop-i-init c = (checked_none, taken_none, refl, refl, refl)
 
-pub returns-then-not-within_limits : goal.returns-then-not-within_limits
-returns-then-not-within_limits c =
+pub returns-then-not-is_within_limits : goal.returns-then-not-is_within_limits
+returns-then-not-is_within_limits c =
     let l = c.loop-i in
-    let k = element_is c.args.list (full (goal.at.returns-then-not-within_limits c).Start) c.looked_at-n.ensures c.loop-i-test.true in record {
-      checked = check_bad (within_limits c.args.area.now) c.args.list (full (goal.at.returns-then-not-within_limits c).Start) (checked_bad l.invariant.0 k.0 k.1 (sym c.within_limits.ensures ∙ c.if-not-within_limits.true));
+    let k = element_is c.args.list (full (goal.at.returns-then-not-is_within_limits c).Start) c.looked_at-n.ensures c.loop-i-test.true in record {
+      checked = check_bad (within_limits c.args.area.now) c.args.list (full (goal.at.returns-then-not-is_within_limits c).Start) (checked_bad l.invariant.0 k.0 k.1 (sym c.is_within_limits.ensures ∙ c.if-not-is_within_limits.true));
       apart = bad_not_good;
     }
 
 pub kind_number-requires : goal.kind_number-requires
-kind_number-requires c = kind_small c.args.area.now _ (sym c.within_limits.ensures ∙ c.if-not-within_limits.false)
+kind_number-requires c = kind_small c.args.area.now _ (sym c.is_within_limits.ensures ∙ c.if-not-is_within_limits.false)
 
 pub loop-i-preserved : goal.loop-i-preserved
 loop-i-preserved c =
     let l = c.loop-i in
     let k = element_is c.args.list (full (goal.at.loop-i-preserved c).Start) c.looked_at-n.ensures c.loop-i-test.true in
-    let good = sym c.within_limits.ensures ∙ c.if-not-within_limits.false in
+    let good = sym c.is_within_limits.ensures ∙ c.if-not-is_within_limits.false in
     let m = from_bits c.amount_of.result c.amount_of.type_inv ∙ c.amount_of.ensures in (
       checked_more l.invariant.0 k.0 k.1 good,
       taken_more l.invariant.1 k.0 (omega arith) (omega arith) (omega arith) k.1 c.kind_number.ensures m c.detail_of.ensures,

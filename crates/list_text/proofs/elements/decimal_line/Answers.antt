@@ -1,34 +1,31 @@
-use native.Mathlib.Omega.{arith}
-use mathlib.Core.Path.{sym, ◌∙◌}
-use Rattle.list_elements.proofs.LimitLaws.{from_bits}
-use lib.Seq.{length-take-le}
-use Rattle.number.proofs.DigitLaws.{digit_bounds}
-use Rattle.list_text.proofs.ElementLaws.{decimal_short, decimal_unblank, decimal_places, decimal_right, decimal_wrong}
+use mathlib.Core.Path.{◌≡◌, sym, ◌∙◌}
+use mathlib.Core.Logic.{◌≢◌}
 use Prim.Native.Nat.{◌-◌}
+use native.Mathlib.Omega.{arith}
 use lib.ListN.{length, get_or}
+use Rattle.std.proofs.Common.{rules}
+use Rattle.list_elements.proofs.LimitLaws.{from_bits}
+use Rattle.list_text.proofs.ElementLaws.{decimal_short, decimal_unblank, decimal_places, decimal_right, decimal_wrong}
+use Rattle.list_text.proofs.elements.decimal_line.Goals.{In-32}
 use Rattle.list_text.proofs.elements.decimal_line.Goals as goal
 
-pub returns-then-n-lt2 : goal.returns-then-n-lt2
-returns-then-n-lt2 c = c.wrong.ensures ∙ decimal_short _ c.if-n-lt2.true
+blank : (c : In-32) → get_or c.args.s.now (length c.args.s.now - 2) 0 ≡ 32
+blank c = omega arith
 
-pub returns-then-s-n-ne32 : goal.returns-then-s-n-ne32
-returns-then-s-n-ne32 c = c.wrong-then-s-n-ne32.ensures ∙ decimal_unblank _ c.if-s-n-ne32.true
+pub returns-in_err-read_number-in-32 : goal.returns-in_err-read_number-in-32
+returns-in_err-read_number-in-32 c = rw c.from_residual.ensures (decimal_wrong c.args.s.now (blank (goal.at.returns-in_err-read_number-in-32 c).In-32) (sym c.is_ascii_digit.ensures.value ∙ c.if-is_ascii_digit.true) (sym c.read_number.ensures ∙ c.in_err-read_number-in-32.was))
 
-pub returns-then-not-is_digit : goal.returns-then-not-is_digit
-returns-then-not-is_digit c = c.wrong-then-not-is_digit.ensures ∙ decimal_places _ c.if-s-n-ne32.false (sym c.is_digit.ensures ∙ c.if-not-is_digit.true)
+pub returns-in_ok-read_number-in-32 : goal.returns-in_ok-read_number-in-32
+returns-in_ok-read_number-in-32 c = rw (from_bits c.in_ok-read_number-in-32.field-0 (c.in_ok-read_number-in-32).known_told-1-own.given.0.1, c.from.ensures)
+    (decimal_right c.args.s.now (blank (goal.at.returns-in_ok-read_number-in-32 c).In-32) (sym c.is_ascii_digit.ensures.value ∙ c.if-is_ascii_digit.true) (sym c.read_number.ensures ∙ c.in_ok-read_number-in-32.was))
 
-pub slice_bounds-read_number-length : goal.slice_bounds-read_number-length
-slice_bounds-read_number-length c = sym (length-take-le _ _ (omega arith))
+pub returns-in_default : goal.returns-in_default
+returns-in_default c = decimal_short c.args.s.now c.in_default.len_below
 
-pub overflow_sub-result : goal.overflow_sub-result
-overflow_sub-result c = (digit_bounds _ (sym c.is_digit.ensures ∙ c.if-not-is_digit.false)).0
+pub returns-in_default-2 : goal.returns-in_default-2
+returns-in_default-2 c = decimal_places c.args.s.now (blank (goal.at.returns-in_default-2 c).In-32) (sym c.is_ascii_digit.ensures.value ∙ c.if-is_ascii_digit.false)
 
-pub overflow_cast-result : goal.overflow_cast-result
-overflow_cast-result c = record { fits = omega (arith, (digit_bounds (get_or c.args.s.now (length c.args.s.now - 1) 0) (sym c.is_digit.ensures ∙ c.if-not-is_digit.false)).1) }
-
-pub returns-in-Number : goal.returns-in-Number
-returns-in-Number c = rw (from_bits c.in-Number.units c.in-Number.known_told-1-own.given.0.1)
-    (decimal_right c.args.s.now c.if-s-n-ne32.false (sym c.is_digit.ensures ∙ c.if-not-is_digit.false) (sym c.read_number.ensures ∙ c.in-Number.is))
-
-pub returns-in-Wrong : goal.returns-in-Wrong
-returns-in-Wrong c = c.wrong-in-Wrong.ensures ∙ decimal_wrong _ c.if-s-n-ne32.false (sym c.is_digit.ensures ∙ c.if-not-is_digit.false) (sym c.read_number.ensures ∙ c.in-Wrong.is)
+pub returns-in_default-3 : goal.returns-in_default-3
+returns-in_default-3 c =
+    let other : get_or c.args.s.now (length c.args.s.now - 2) 0 ≢ 32 = search rules in
+    decimal_unblank c.args.s.now other

@@ -1,15 +1,18 @@
-use mathlib.Core.Path.{◌∙◌}
+use native.Mathlib.Omega.{arith}
 use Rattle.list_text.proofs.ElementLaws.{logical_long, logical_true, logical_false, logical_wrong}
 use Rattle.list_text.proofs.elements.logical_line.Goals as goal
 
-pub returns-then-s-ne1 : goal.returns-then-s-ne1
-returns-then-s-ne1 c = c.wrong.ensures ∙ logical_long _ c.if-s-ne1.true
+pub returns-in-84 : goal.returns-in-84
+returns-in-84 c = logical_true c.args.s.now (omega arith) (omega arith)
 
-pub returns-then-s-eq84 : goal.returns-then-s-eq84
-returns-then-s-eq84 c = logical_true _ c.if-s-ne1.false c.if-s-eq84.true
+pub returns-in-70 : goal.returns-in-70
+returns-in-70 c = logical_false c.args.s.now (omega arith) (λ e. omega arith) (omega arith)
 
-pub returns-then-s-eq70 : goal.returns-then-s-eq70
-returns-then-s-eq70 c = logical_false _ c.if-s-ne1.false c.if-s-eq84.false c.if-s-eq70.true
+pub returns-in_default : goal.returns-in_default
+returns-in_default c = logical_long c.args.s.now (λ e. omega arith)
 
-pub returns : goal.returns
-returns c = c.wrong-2.ensures ∙ logical_wrong _ c.if-s-ne1.false c.if-s-eq84.false c.if-s-eq70.false
+pub returns-in_default-2 : goal.returns-in_default-2
+returns-in_default-2 c = logical_wrong c.args.s.now (omega arith) (λ e. omega arith) (λ e. omega arith)
+
+pub returns-in_default-3 : goal.returns-in_default-3
+returns-in_default-3 c = logical_long c.args.s.now (λ e. omega arith)

@@ -1,14 +1,13 @@
-use Rattle.list_text.proofs.LineLaws.{on_none, on_more, on_stop, on_end}
+use mathlib.Core.Path.{◌≡◌, ap, ◌∙◌}
+use native.Mathlib.Omega.{arith}
+use lib.ListN.{length, drop, length-drop}
+use Rattle.list_text.specs.Lines.{first_line}
+use Rattle.list_text.proofs.ElementLaws.{part_rest}
+use Rattle.list_text.proofs.LineLaws.{line_short}
 use Rattle.list_text.proofs.lines.line_end.Goals as goal
 
-pub loop-i-init : goal.loop-i-init
-loop-i-init c = on_none c.requires
-
-pub returns-then-text-i-eq10 : goal.returns-then-text-i-eq10
-returns-then-text-i-eq10 c = on_stop c.loop-i.invariant c.loop-i-test.true c.if-text-i-eq10.true
-
-pub loop-i-preserved : goal.loop-i-preserved
-loop-i-preserved c = on_more c.loop-i.invariant c.loop-i-test.true c.if-text-i-eq10.false
-
 pub returns : goal.returns
-returns c = on_end c.loop-i.invariant c.loop-i-test.false
+returns c =
+    let line : c.first_line.result.now ≡ first_line (drop c.args.from c.args.text.now) = c.first_line.ensures ∙ ap first_line (part_rest c.args.text.now c.args.from) in
+    let long = ap length line in
+    (omega arith, omega (arith, line_short (drop c.args.from c.args.text.now), length-drop c.args.from c.args.text.now))

@@ -1,9 +1,6 @@
-use Prim.Native.Nat.{◌≤◌, ◌<◌, ◌-◌}
+use Prim.Native.Nat.{◌≤◌, ◌<◌}
 use Rattle.number.specs.Digits.{digit_count}
 use Rattle.number.proofs.digits.count_within.Given as goal
 
 abbrev pub invariant-loop-n : goal.invariant-loop-n
-invariant-loop-n l = (0 < l.n) × (l.n ≤ l.most) × (l.n ≤ digit_count l.m)
-
-abbrev pub decreases-loop-n : goal.decreases-loop-n
-decreases-loop-n l = l.most - l.n
+invariant-loop-n l = (0 < l.n) × (l.n ≤ digit_count l.m)

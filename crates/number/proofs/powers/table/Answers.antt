@@ -2,6 +2,6 @@ use mathlib.Core.Path.{refl}
 use Rattle.number.specs.Powers.{tens}
 use Rattle.number.proofs.powers.table.Goals as goal
 
-pub returns : goal.returns
+pub returns-clause-all : goal.returns-clause-all
 unfolding tens
-returns c = (refl, refl)
+returns-clause-all c = refl

@@ -11,10 +11,10 @@ use Rattle.number.proofs.rounding.round.Goals.{After-table-powers, Then-units-po
 
 -- the power to multiply by, and the one to stay below
 factor : (c : After-table-powers) → get_or c.table-powers.result (c.args.wanted - c.args.places) 0 ≡ 10 ^ (c.args.wanted - c.args.places)
-factor c = table_at c.table-powers.result _ c.table-powers.ensures.0 (search rules)
+factor c = table_at c.table-powers.result _ c.table-powers.ensures.all (search rules)
 
 limit : (c : After-table-powers) → get_or c.table-powers.result (18 - (c.args.wanted - c.args.places)) 0 ≡ 10 ^ (18 - (c.args.wanted - c.args.places))
-limit c = table_at c.table-powers.result _ c.table-powers.ensures.0 (omega arith)
+limit c = table_at c.table-powers.result _ c.table-powers.ensures.all (omega arith)
 
 few : (c : After-table-powers) → c.args.wanted - c.args.places ≤ 18
 few c = search rules

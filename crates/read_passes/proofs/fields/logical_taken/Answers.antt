@@ -4,5 +4,5 @@ use Rattle.list_elements.proofs.LimitLaws.{from_bits}
 use Rattle.read_passes.specs.declared.Taken.TheVariants.{Element}
 use Rattle.read_passes.proofs.fields.logical_taken.Goals as goal
 
-pub returns-in-Truth : goal.returns-in-Truth
-returns-in-Truth c = rw c.in-Truth.is (ap (λ (z : ℤ). Element z 0) (from_bits c.one_if.result c.one_if.type_inv ∙ c.one_if.ensures))
+pub returns-in-Some : goal.returns-in-Some
+returns-in-Some c = rw c.in-Some.is (ap (λ (z : ℤ). Element z 0) (from_bits c.one_if.result c.one_if.type_inv ∙ c.one_if.ensures))

@@ -1,5 +1,4 @@
 use native.Mathlib.Omega.{arith}
-use borrow.Author.Rules.{rules}
 use Rattle.sheet_walk.proofs.WidthLaws.{width_none, width_over}
 use Rattle.sheet_read.proofs.ReadLaws.{width_refuses}
 use Rattle.sheet_read.proofs.formats.read_numbers.Goals as goal
@@ -9,9 +8,3 @@ returns-then-width-lt1 c = record { read = width_refuses c.args.width c.args.for
 
 pub returns-then-width-gt-WIDEST_RECORD : goal.returns-then-width-gt-WIDEST_RECORD
 returns-then-width-gt-WIDEST_RECORD c = record { read = width_refuses c.args.width c.args.format.now c.args.check c.args.kinds.now c.args.room c.args.records.now (width_over c.args.width (omega (arith, c.if-width-lt1.false)) c.if-width-gt-WIDEST_RECORD.true) }
-
-pub read_small-requires : goal.read_small-requires
-read_small-requires c = (record { from = omega (arith, c.if-width-lt1.false); to = omega (arith, c.if-width-gt-WIDEST_RECORD.false) }, search rules, search rules, search rules)
-
-pub returns : goal.returns
-returns c = c.read_small.ensures

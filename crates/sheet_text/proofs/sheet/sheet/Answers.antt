@@ -1,14 +1,20 @@
 use borrow.Author.Rules.{rules}
 use native.Mathlib.Omega.{arith}
-use mathlib.Core.Path.{◌≡◌, sym, ap, ◌∙◌}
+use mathlib.Core.Path.{◌≡◌, refl, sym, ap, ◌∙◌}
 use mathlib.Core.List.{List}
-use Prim.Native.Nat.{ℕ, ◌*◌, ◌≤◌}
+use Prim.Native.Nat.{ℕ, ◌+◌, ◌*◌, ◌≤◌}
 use lib.ListN.{length, take}
-use lib.Seq.{length-take-le}
+use Rattle.buffer.specs.Splice.{splice}
+use Rattle.list_text.specs.Lines.{first_line, after_line}
+use Rattle.sheet_walk.specs.Refusals.{refusal_number, refusal_place}
+use Rattle.sheet_walk.specs.declared.Answer.{Answer}
+use Rattle.sheet_walk.specs.declared.Answer.TheVariants as answer
+use Rattle.sheet_walk.specs.declared.Refusal.{Refusal}
+use Rattle.sheet_text.specs.Output.{refused_line}
 use Rattle.sheet_text.specs.Input.{width_on, input_width}
 use Rattle.sheet_text.specs.SheetOutput.{record_buffer, sheet_output}
 use Rattle.sheet_text.proofs.Unread.{rest_unread}
-use Rattle.sheet_text.proofs.SheetLaws.{Split, split, Did, did, sheet_refused, sheet_accepted, output_put}
+use Rattle.sheet_text.proofs.SheetLaws.{Did, did, no_width, sheet_refused, sheet_accepted, output_put}
 use Rattle.sheet_walk.specs.declared.Answer.TheVariants.{Accepted}
 use Rattle.sheet_text.proofs.sheet.sheet.Goals as goal
 use Rattle.sheet_text.proofs.sheet.sheet.Goals.{After-write_list_text}
@@ -17,12 +23,8 @@ use Rattle.sheet_text.proofs.sheet.sheet.Goals.{After-write_list_text}
 beginning : (s whole : List ℕ) → s ≡ take 8192 whole → sheet_output s ≡ sheet_output whole
 beginning s whole e = ap sheet_output e ∙ rest_unread whole 8192 (omega arith)
 
--- the input as it was taken apart
-parts : (c : After-write_list_text) → Split c.args.input.now c.line_end-first.result c.next_line-second.result c.line_end-end.result c.next_line-rest.result
-parts c = split c.args.input.now c.line_end-first.ensures.0 c.next_line-second.ensures.0 c.line_end-end.ensures.0 c.next_line-rest.ensures.0
-
-width_is : (c : After-write_list_text) → c.read_width-width.result ≡ input_width c.args.input.now
-width_is c = c.read_width-width.ensures ∙ ap width_on (parts c).width_line
+width_is : (c : After-write_list_text) → c.in-Some.width ≡ input_width c.args.input.now
+width_is c = c.in-Some.ensures ∙ ap width_on c.split_line.ensures.line
 
 full : (c : After-write_list_text) → length c.args.records.now ≡ record_buffer
 full c = search rules
@@ -30,19 +32,16 @@ full c = search rules
 -- what writing did
 wrote : (c : After-write_list_text) → Did c.args.input.now c.args.records.now c.write_list_text.result c.write_list_text.new.buffer
 wrote c =
-    did c.args.input.now c.args.records.now (full c) c.read_width-width.ensures (parts c).width_line (parts c).format_line (parts c).list
+    did c.args.input.now c.args.records.now (full c) c.in-Some.ensures c.split_line.ensures.line (c.split_line-2.ensures.line ∙ ap first_line c.split_line.ensures.rest) (c.split_line-2.ensures.rest ∙ ap after_line c.split_line.ensures.rest)
     c.write_list_text.ensures.answers c.write_list_text.ensures.bytes
 
 -- n records fit, each with a line feed
 lines_fit : (c : After-write_list_text) {count starred : ℕ} → c.write_list_text.result ≡ Accepted count starred
-    → (count * c.read_width-width.result ≤ record_buffer) × (count ≤ record_buffer)
+    → (count * c.in-Some.width ≤ record_buffer) × (count ≤ record_buffer)
 lines_fit c {count} e =
     let o = sheet_accepted c.args.input.now c.args.records.now (full c) (wrote c) e in
     let w = ap (λ (x : ℕ). count * x) (width_is c) in
     (omega (arith, o.room, w), omega (arith, o.room, o.few))
-
-pub slice_bounds-read_width-end : goal.slice_bounds-read_width-end
-slice_bounds-read_width-end c = sym (length-take-le _ _ c.line_end-first.ensures.1)
 
 pub put_records-at-requires : goal.put_records-at-requires
 put_records-at-requires c = let f = lines_fit (goal.at.put_records-at-requires c).After-write_list_text c.in-Accepted.is in
@@ -50,34 +49,39 @@ put_records-at-requires c = let f = lines_fit (goal.at.put_records-at-requires c
     let o : length c.args.output.now ≡ 131200 = search rules in
     (omega (arith, f.0), omega (arith, f.0, f.1))
 
-pub put_counts-requires : goal.put_counts-requires
-put_counts-requires c = let f = lines_fit (goal.at.put_counts-requires c).After-write_list_text c.in-Accepted.is in
+pub put_line-requires-in-Accepted : goal.put_line-requires-in-Accepted
+put_line-requires-in-Accepted c = let f = lines_fit (goal.at.put_line-requires-in-Accepted c).After-write_list_text c.in-Accepted.is in
     let o : length c.put_records-at.new.dst ≡ 131200 = search rules in
     omega (arith, f.0, f.1, c.put_records-at.ensures.2)
+
+-- a refused sheet's line
+refused : (s before d₀ : List ℕ) {after d₁ line : List ℕ} {r : Answer} {why : Refusal} {n : ℕ} → Did s before r after → r ≡ answer.Refused why → line ≡ refused_line (refusal_number why) (refusal_place why) → d₁ ≡ splice d₀ 0 line → n ≡ 0 + length line
+    → (d₁ ≡ splice d₀ 0 (sheet_output s)) × (n ≡ length (sheet_output s))
+refused s before d₀ d e is put long = let o = sheet_refused s before d e in (put ∙ rw (is, o), long ∙ rw (is, o) (omega arith))
+
+pub returns-in_default : goal.returns-in_default
+returns-in_default c =
+    let w = c.in_default.ensures ∙ ap width_on c.split_line.ensures.line in
+    let d = no_width c.args.input.now c.args.records.now (search rules) (sym w) in
+    let o = refused c.args.input.now c.args.records.now c.args.output.now d refl c.refusal_line.ensures c.put_line.ensures.line c.put_line.ensures.end in
+    record { length = o.1; room = omega (arith, c.put_line.ensures.few); output = o.0; records = d.is; whole = beginning _ }
 
 pub returns-in-Refused : goal.returns-in-Refused
 returns-in-Refused c =
     let d = wrote (goal.at.returns-in-Refused c).After-write_list_text in
-    let e = sheet_refused c.args.input.now c.args.records.now d c.in-Refused.is in
-    let n = c.number_of.ensures in
-    let p = c.place_of-place.ensures in
-    record {
-      length = c.put_refused.ensures.1 ∙ rw (n, p, e);
-      room = omega (arith, c.put_refused.ensures.2);
-      output = c.put_refused.ensures.0 ∙ rw (n, p, e);
-      records = d.is;
-      whole = beginning _;
-    }
+    let o = refused c.args.input.now c.args.records.now c.args.output.now d c.in-Refused.is c.refusal_line-in-Refused.ensures c.put_line-in-Refused.ensures.line c.put_line-in-Refused.ensures.end in
+    record { length = o.1; room = omega (arith, c.put_line-in-Refused.ensures.few); output = o.0; records = d.is; whole = beginning _ }
 
 pub returns-in-Accepted : goal.returns-in-Accepted
 returns-in-Accepted c =
     let d = wrote (goal.at.returns-in-Accepted c).After-write_list_text in
     let o = sheet_accepted c.args.input.now c.args.records.now (full (goal.at.returns-in-Accepted c).After-write_list_text) d c.in-Accepted.is in
     let f = lines_fit (goal.at.returns-in-Accepted c).After-write_list_text c.in-Accepted.is in
-    let w = output_put c.args.input.now _ o c.args.output.now (width_is (goal.at.returns-in-Accepted c).After-write_list_text) c.put_records-at.ensures.0 c.put_records-at.ensures.1 c.put_counts.ensures.0 c.put_counts.ensures.1 in
+    let line = c.counts.ensures in
+    let w = output_put c.args.input.now _ o c.args.output.now (width_is (goal.at.returns-in-Accepted c).After-write_list_text) c.put_records-at.ensures.0 c.put_records-at.ensures.1 (rw line at c.put_line-in-Accepted.ensures.line) (rw line at c.put_line-in-Accepted.ensures.end) in
     record {
       length = w.0;
-      room = omega (arith, f.0, f.1, c.put_records-at.ensures.2, c.put_counts.ensures.2);
+      room = omega (arith, f.0, f.1, c.put_records-at.ensures.2, c.put_line-in-Accepted.ensures.few);
       output = w.1;
       records = d.is;
       whole = beginning _;

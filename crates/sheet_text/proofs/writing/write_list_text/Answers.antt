@@ -14,15 +14,15 @@ use Rattle.sheet_text.proofs.writing.write_list_text.Goals as goal
 use Rattle.sheet_text.proofs.writing.write_list_text.Goals.{After-set_apart}
 
 -- the list has at most 64 elements
-few : (c : After-set_apart) → c.read_list-list_text.result.list.count ≤ 64
+few : (c : After-set_apart) → c.checked_list-check.result.1.count ≤ 64
 few c =
-    let r = c.read_list-list_text in
+    let r = c.checked_list-check in
     list_few c.args.text.now r.ensures.checked r.ensures.list
 
 -- and is listed, taken apart
-listed : (c : After-set_apart) → length c.set_apart.new.kinds ≡ 64 → ListedIf c.read_list-list_text.result.check c.args.text.now (line_values c.args.text.now) (take c.read_list-list_text.result.list.count c.set_apart.new.kinds) (take c.read_list-list_text.result.list.count c.set_apart.new.amounts) (take c.read_list-list_text.result.list.count c.set_apart.new.details)
+listed : (c : After-set_apart) → length c.set_apart.new.kinds ≡ 64 → ListedIf c.checked_list-check.result.0 c.args.text.now (line_values c.args.text.now) (take c.checked_list-check.result.1.count c.set_apart.new.kinds) (take c.checked_list-check.result.1.count c.set_apart.new.amounts) (take c.checked_list-check.result.1.count c.set_apart.new.details)
 listed c long =
-    let r = c.read_list-list_text in
+    let r = c.checked_list-check in
     text_listed c.args.text.now r.ensures.checked r.ensures.list c.set_apart.new.kinds c.set_apart.new.amounts c.set_apart.new.details long c.set_apart.ensures
 
 pub returns-then-not-width_right : goal.returns-then-not-width_right
@@ -31,7 +31,7 @@ returns-then-not-width_right c =
     record { answers = clauses.0; bytes = clauses.1.0; number = clauses.1.1.0; place = clauses.1.1.1.0; records = clauses.1.1.1.1.0; starred = clauses.1.1.1.1.1 }
 
 pub set_apart-requires : goal.set_apart-requires
-set_apart-requires c = let r = c.read_list-list_text in
+set_apart-requires c = let r = c.checked_list-check in
     (list_good c.args.text.now r.ensures.checked r.ensures.list, search rules, search rules, search rules)
 
 pub slice_bounds-kinds-end : goal.slice_bounds-kinds-end
@@ -61,5 +61,5 @@ write_apart-requires c = let g : length c.set_apart.new.kinds ≡ 64 = search ru
 pub returns : goal.returns
 returns c = let clauses = let g : length c.set_apart.new.kinds ≡ 64 = search rules in
     let a = c.args in
-    promised (checked_so a.format.now c.read_list-list_text.ensures.checked (c.write_apart.ensures.wrote (line_values a.text.now) (listed (goal.at.returns c).After-set_apart g))) in
+    promised (checked_so a.format.now c.checked_list-check.ensures.checked (c.write_apart.ensures.wrote (line_values a.text.now) (listed (goal.at.returns c).After-set_apart g))) in
     record { answers = clauses.0; bytes = clauses.1.0; number = clauses.1.1.0; place = clauses.1.1.1.0; records = clauses.1.1.1.1.0; starred = clauses.1.1.1.1.1 }

@@ -1,0 +1,18 @@
+// The records as lines.
+ghost use Rattle.std.specs.Prelude.{◌≡◌, ◌+◌, ◌*◌, ◌≤◌, length};
+ghost use Rattle.buffer.specs.Splice.{splice};
+ghost use Rattle.sheet_text.specs.Output.{record_lines};
+
+// The first records of this width, each and a line feed. Answers the offset after them.
+pub fn put_records(dst: &mut [u8], width: usize, count: usize, records: &[u8]) -> usize
+    requires { (count * width ≤ length records.now) × (count * width + count ≤ length dst.old) }
+    ensures { (dst.new ≡ splice dst.old 0 (record_lines width count records.now)) × (result ≡ length (record_lines width count records.now)) × (result ≡ count * width + count) }
+{
+    for i in 0..count {
+        let at = i * (width + 1);
+        let from = i * width;
+        dst[at..at + width].copy_from_slice(&records[from..from + width]);
+        dst[at + width] = b'\n';
+    }
+    count * width + count
+}
