@@ -1,15 +1,16 @@
 // The calls that are measured.
 use format_check::check::check;
 use list_elements::List;
+use sheet_read::SheetRead;
 use sheet_read::read::read;
-use sheet_walk::Answer;
+use sheet_walk::{Counts, Refusal};
 use sheet_write::write::write;
 use test_calls::lists::list_from;
 use test_calls::slots::Slot;
 
 // Whether so many records were written.
-fn reaches(answer: Answer, wanted: usize) -> bool {
-    matches!(answer, Answer::Accepted { records, .. } if records == wanted)
+fn reaches(answer: Result<Counts, Refusal>, wanted: usize) -> bool {
+    matches!(answer, Ok(counts) if counts.records == wanted)
 }
 
 // Writes a list so many times; how many times it filled so many records.
@@ -48,7 +49,10 @@ pub fn bench_read(
     for done in 0..times {
         let given = read(width, format, list, area, records);
         let slot = done % List::MOST;
-        if Slot::from(given.list.elements[slot].value).number == expected[slot] {
+        let is_expected = |sheet: SheetRead| {
+            Slot::from(sheet.list.elements[slot].value).number == expected[slot]
+        };
+        if given.is_ok_and(is_expected) {
             good += 1;
         }
     }

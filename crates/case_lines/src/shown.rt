@@ -24,8 +24,8 @@ impl From<FormatRefusal> for Refused {
 impl From<Refusal> for Refused {
     fn from(refusal: Refusal) -> Self {
         Refused {
-            number: sheet_walk::refusals::number_of(refusal),
-            place: sheet_walk::refusals::place_of(refusal),
+            number: refusal.number(),
+            place: refusal.place(),
         }
     }
 }
@@ -43,6 +43,15 @@ impl fmt::Display for Refused {
 pub struct Counts {
     pub records: usize,
     pub starred: usize,
+}
+
+impl From<sheet_walk::Counts> for Counts {
+    fn from(counts: sheet_walk::Counts) -> Self {
+        Counts {
+            records: counts.records,
+            starred: counts.starred,
+        }
+    }
 }
 
 impl fmt::Display for Counts {

@@ -5,13 +5,12 @@ use Rattle.std.specs.Prelude.{ℤ, pos, neg_ℤ, Ok, Err}
 use Rattle.format_items.specs.Refusals as format
 use Rattle.format_check.specs.Checked.{CheckAnswer}
 use Rattle.sheet_walk.specs.Refusals.{refusal_number}
-use Rattle.sheet_walk.specs.declared.Answer.{Answer}
-use Rattle.sheet_walk.specs.declared.Answer.TheVariants as answer
+use Rattle.sheet_walk.specs.Answers.{Answer}
 
 -- of writing
 abbrev pub host_write_number : Answer → ℤ
-host_write_number (answer.Accepted n k) = pos n
-host_write_number (answer.Refused why) = neg_ℤ (pos (refusal_number why))
+host_write_number (Ok n) = pos n.records
+host_write_number (Err why) = neg_ℤ (pos (refusal_number why))
 
 -- of the format check
 abbrev pub host_check_number : CheckAnswer → ℤ

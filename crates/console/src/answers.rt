@@ -4,19 +4,16 @@ ghost use Rattle.sheet_walk.specs.Answers.{answer_records};
 ghost use Rattle.console.specs.HostAnswers.{host_write_number, host_check_number};
 
 use format_check::FormatRefusal;
-use sheet_walk::Answer;
+use sheet_walk::{Counts, Refusal};
 
 // The records written, or the refusal's number negated.
-pub fn write_answer(answer: Answer) -> i64
+pub fn write_answer(answer: Result<Counts, Refusal>) -> i64
     requires { answer_records answer < 2 ^ 63 }
     ensures { result ≡ host_write_number answer }
 {
     match answer {
-        Answer::Accepted {
-            records,
-            starred: _,
-        } => records as i64,
-        Answer::Refused(refusal) => -(sheet_walk::refusals::number_of(refusal) as i64),
+        Ok(counts) => counts.records as i64,
+        Err(why) => -(why.number() as i64),
     }
 }
 

@@ -1,65 +1,51 @@
 // The items met.
-ghost use Rattle.std.specs.Prelude.{◌≡◌, ◌≤◌, length};
-
-use format_grammar::LEVELS;
 use format_items::LONGEST_FORMAT;
-use format_load::items::check_items;
-use format_run::unroll::unroll;
-use format_words::{
-    FIRST_BASE, KIND_A, KIND_AW, KIND_BASE, KIND_F, KIND_I, KIND_L, KIND_SLASH, KIND_T, KIND_X,
-};
+use format_load::load::load;
+use format_words::{Entry, Word};
 use std::io;
 
 // A literal's characters; none where they are not all there.
-fn show_literal(rt: &impl Print, chars: &[u8], start: usize, count: usize) -> io::Result<()> {
-    let literal = chars.get(start..).and_then(|rest| rest.get(..count));
+fn show_literal(rt: &impl Print, chars: &[u8], start: usize, len: usize) -> io::Result<()> {
+    let literal = chars.get(start..).and_then(|rest| rest.get(..len));
     rt.write_all(b"<")?;
     rt.write_all(literal.unwrap_or(&[]))?;
     rt.write_all(b">")
 }
 
 // One item met.
-fn show_word(rt: &impl Print, word: u64, chars: &[u8]) -> io::Result<()> {
-    let kind = word % KIND_BASE;
-    let first = word / KIND_BASE % FIRST_BASE;
-    let second = word / KIND_BASE / FIRST_BASE;
+fn show_word(rt: &impl Print, word: Word, chars: &[u8]) -> io::Result<()> {
     print!(rt; " ")?;
-    match kind {
-        KIND_I => print!(rt; "I{first}"),
-        KIND_F => print!(rt; "F{first}.{second}"),
-        KIND_L => print!(rt; "L{first}"),
-        KIND_A => print!(rt; "A"),
-        KIND_AW => print!(rt; "A{first}"),
-        KIND_X => print!(rt; "{first}X"),
-        KIND_T => print!(rt; "T{first}"),
-        KIND_SLASH => print!(rt; "/"),
-        _ => show_literal(rt, chars, first as usize, second as usize),
-    }
-}
-
-// The items met of a format of at most 1,024 bytes.
-fn show_items(rt: &impl Print, format: &[u8]) -> io::Result<()>
-    requires { length format.now ≤ 1024 }
-{
-    let mut entries = [0u64; 1024];
-    let mut chars = [0u8; 1024];
-    let mut run = [0u64; 4096];
-    match check_items(format, &mut entries, &mut chars) {
-        Err(_) => println!(rt; "refused"),
-        Ok(items) => {
-            let u = unroll(&entries, 0, items.entries, LEVELS, &mut run, 0);
-            print!(rt; "size {} return {}:", items.size, u.back)?;
-            for word in &run[..u.end] {
-                show_word(rt, *word, &chars)?;
-            }
-            println!(rt)
+    match word {
+        Word::I { width } => print!(rt; "I{width}"),
+        Word::F { width, places } => print!(rt; "F{width}.{places}"),
+        Word::L { width } => print!(rt; "L{width}"),
+        Word::A => print!(rt; "A"),
+        Word::Aw { width } => print!(rt; "A{width}"),
+        Word::X { count } => print!(rt; "{count}X"),
+        Word::T { column } => print!(rt; "T{column}"),
+        Word::Slash => print!(rt; "/"),
+        Word::Literal { start, len } => {
+            show_literal(rt, chars, usize::from(start), usize::from(len))
         }
     }
 }
 
+// The items met of a format.
 pub fn show_run(rt: &impl Print, format: &[u8]) -> io::Result<()> {
-    if LONGEST_FORMAT < format.len() {
-        return println!(rt; "refused");
+    let mut entries = [Entry::Item {
+        word: Word::A,
+        repeat: 0,
+    }; LONGEST_FORMAT];
+    let mut chars = [0u8; LONGEST_FORMAT];
+    let mut words = [Word::A; 4096];
+    match load(format, &mut entries, &mut chars, &mut words) {
+        Err(_) => println!(rt; "refused"),
+        Ok(run) => {
+            print!(rt; "size {} return {}:", run.words.len(), run.back)?;
+            for word in run.words {
+                show_word(rt, *word, run.chars)?;
+            }
+            println!(rt)
+        }
     }
-    show_items(rt, format)
 }

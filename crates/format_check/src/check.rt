@@ -6,6 +6,7 @@ ghost use Rattle.format_check.specs.Checked.{answer, answer_number, answer_place
 
 use format_items::{FormatRefusal, LONGEST_FORMAT};
 use format_load::items::check_items;
+use format_words::{Entry, Word};
 
 // Rows 3 to 5, for a text of at most N bytes: with room for the items of one so long. Not inlined, so that the stack of a call
 // holds the arrays of one size.
@@ -14,7 +15,11 @@ fn check_within<const N: usize>(text: &[u8]) -> Result<(), FormatRefusal>
     requires { (length text.now ≤ N) × (N ≤ longest_format) }
     ensures { result ≡ answer (outcome text.now) }
 {
-    let mut entries = [0u64; N];
+    let blank = Entry::Item {
+        word: Word::I { width: 0 },
+        repeat: 0,
+    };
+    let mut entries = [blank; N];
     let mut chars = [0u8; N];
     check_items(text, &mut entries, &mut chars)?;
     Ok(())

@@ -7,14 +7,14 @@ ghost use Rattle.std.specs.Prelude.{◌≡◌};
 pub const LONGEST_FORMAT: usize = 1024;
 
 // The largest size.
-pub const LARGEST_SIZE: u64 = 4096;
+pub const LARGEST_SIZE: usize = 4096;
 
 // The largest r, and n in X and T; the largest w; the largest d.
-pub const LARGEST_COUNT: u64 = 255;
+pub const LARGEST_COUNT: u16 = 255;
 
-pub const LARGEST_WIDTH: u64 = 64;
+pub const LARGEST_WIDTH: u16 = 64;
 
-pub const LARGEST_PLACES: u64 = 9;
+pub const LARGEST_PLACES: u16 = 9;
 
 // A format refused: rows 2 to 5 of document 01's 'Checks by place'.
 #[derive(Clone, Copy, PartialEq, Eq, Debug)]

@@ -5,7 +5,7 @@ use mathlib.Core.List.{List}
 use Prim.Native.Nat.{ℕ, ◌<◌, ◌≤◌}
 use native.Mathlib.Omega.{arith}
 use borrow.Author.Tests.{lt-ltb, le-ltb}
-use lib.ListN.{length}
+use lib.ListN.{length, take}
 use Rattle.std.specs.Prelude.{Option, Some, None}
 use Rattle.format_items.specs.Ranges.{numbers, first_outside}
 use Rattle.format_items.specs.Size.{size}
@@ -14,6 +14,7 @@ use Rattle.format_grammar.specs.Check.{refused, check_size, check_range, outcome
 use Rattle.format_items.specs.declared.FormatRefusal.TheVariants.{Grammar, Range, Size}
 use Rattle.format_items.proofs.RangeLaws.{all_within}
 use Rattle.format_grammar.proofs.Promises.{outcome_short}
+use Rattle.format_words.specs.declared.Entry.{Entry}
 use Rattle.format_words.specs.Held.{SomeItems}
 use Rattle.format_run.specs.Sizes.{capped}
 use Rattle.format_run.specs.Runs.{SomeItemsFit}
@@ -25,7 +26,7 @@ module _ (s : List ℕ) (short : length s ≤ 1024) where
   pub row_grammar : {p : ℕ} → reading s ≡ wrong p → outcome s ≡ refused (Grammar p)
   row_grammar e = outcome_short s short ∙ rw e
 
-  module _ {a t : List ℕ} {p : Position} (i : ItemsRead s a t p) where
+  module _ {a : List Entry} {t : List ℕ} {p : Position} (i : ItemsRead s a t p) where
     after_grammar : outcome s ≡ check_range (first_outside (numbers i.read)) i.read
     after_grammar = outcome_short s short ∙ rw i.is
 
@@ -42,23 +43,24 @@ module _ (s : List ℕ) (short : length s ≤ 1024) where
       pub row_size : (k : ℕ) → k ≡ capped (size i.read) → 4096 < k → outcome s ≡ refused Size
       row_size k e g = after_range ∙ rw (lt-ltb 4096 (size i.read) (omega arith))
 
-      pub row_none : (k : ℕ) → k ≡ capped (size i.read) → k ≤ 4096 → length s ≤ length t → ItemsHeld s a t p.entries k
-      row_none k e g f =
+      pub row_none : (k : ℕ) → k ≡ capped (size i.read) → k ≤ 4096 → length s ≤ length a → length s ≤ length t → ItemsHeld s a t p.entries k
+      row_none k e g m f =
           record {
             items = i.read;
             accepts = after_range ∙ rw (le-ltb 4096 (size i.read) (omega arith));
             c = p.chars;
             holds = i.holds;
+            some = omega (arith, i.few_entries);
             within = omega (arith, i.few_chars);
             ranges = all_within (numbers i.read) none_outside;
             sized = omega arith;
             small = g;
           }
 
-pub held : {s a t : List ℕ} {p : Position} → ItemsRead s a t p → SomeItems a 4 0 p.entries
+pub held : {s : List ℕ} {a : List Entry} {t : List ℕ} {p : Position} → ItemsRead s a t p → SomeItems (take p.entries a) 4
 held {t} {p} i = record { t = t; c = p.chars; items = i.read; holds = i.holds }
 
 -- ---- room for the run of an accepted format
 
-pub items_fit : {s a t : List ℕ} {n k : ℕ} → ItemsHeld s a t n k → (run : List ℕ) → k ≤ length run → SomeItemsFit a 4 0 n run 0
-items_fit {t} i run h = record { t = t; c = i.c; items = i.items; holds = i.holds; ranges = i.ranges; room = omega (arith, i.sized) }
+pub items_fit : {s : List ℕ} {a : List Entry} {t : List ℕ} {n k : ℕ} → ItemsHeld s a t n k → (room : ℕ) → k ≤ room → SomeItemsFit (take n a) 4 room
+items_fit {t} i room h = record { t = t; c = i.c; items = i.items; holds = i.holds; ranges = i.ranges; fits = omega (arith, i.sized) }

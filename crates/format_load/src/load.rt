@@ -6,17 +6,19 @@ use crate::LoadError;
 use crate::items::check_items;
 use format_grammar::LEVELS;
 use format_items::{FormatRefusal, LONGEST_FORMAT};
-use format_run::unroll::{Unrolled, unroll};
+use format_run::unroll::unroll;
+use format_words::run::Run;
+use format_words::{Entry, Word};
 
-// A format's text checked (rows 2 to 5) and unrolled: the run is the first `end` words of `run`, and the walk returns to the
-// word at `back`; `TooSmall` where the arrays are too small.
-pub fn load(
+// A format's text checked (rows 2 to 5), and its items unrolled into the first words of `run`; `TooSmall` where the arrays
+// are too small.
+pub fn load<'a>(
     format: &[u8],
-    entries: &mut [u64],
-    chars: &mut [u8],
-    run: &mut [u64],
-) -> Result<Unrolled, LoadError>
-    ensures { loaded format.now (length entries.old) (length chars.old) (length run.old) chars.new run.new result }
+    entries: &mut [Entry],
+    chars: &'a mut [u8],
+    run: &'a mut [Word],
+) -> Result<Run<'a>, LoadError>
+    ensures { loaded format.now (length entries.old) (length chars.old) (length run.old) result }
 {
     if LONGEST_FORMAT < format.len() {
         return Err(LoadError::Refused(FormatRefusal::Length));
@@ -28,5 +30,10 @@ pub fn load(
     if run.len() < items.size {
         return Err(LoadError::TooSmall);
     }
-    Ok(unroll(entries, 0, items.entries, LEVELS, run, 0))
+    let unrolled = unroll(&entries[..items.entries], LEVELS, run);
+    Ok(Run {
+        words: &run[..unrolled.end],
+        back: unrolled.back,
+        chars,
+    })
 }

@@ -3,22 +3,23 @@
 use mathlib.Core.Path.{◌≡◌, refl, sym, ap, ◌∙◌, subst}
 use mathlib.Core.Bool.{true, false}
 use mathlib.Core.List.{List, [], ◌∷◌, ◌++◌, append-nil}
-use Prim.Native.Nat.{ℕ, ◌+◌, ◌*◌, ◌<◌}
+use Prim.Native.Nat.{ℕ, ◌+◌, ◌<◌}
 use native.Mathlib.Omega.{arith}
 use borrow.Author.Tests.{ne_eqb}
 use lib.ListN.{length, get_or}
 use Rattle.std.specs.Prelude.{Option, Some, None, is_some, unwrap_or, Result, Ok, Err}
-use Rattle.format_items.specs.Items.{number, Repeat, Items, join}
+use Rattle.format_items.specs.Items.{number, Repeat, times, Items, join}
 use Rattle.format_items.specs.Ranges.{ranged, repeat_numbers, numbers}
 use Rattle.format_items.specs.Met.{Met}
 use Rattle.format_grammar.specs.Reading.{Use, Mode, Open, State, wanted, begun}
-use Rattle.format_words.specs.Words.{met_of, kind_x}
+use Rattle.format_words.specs.declared.Word.{Word}
+use Rattle.format_words.specs.declared.Word.TheVariants as word
 use Rattle.format_words.specs.Held.{First}
-use Rattle.format_words.proofs.WordLaws.{met-X, met_slash}
-use Rattle.format_read.specs.Steps.{number_at, NumberFound, outside_after, ItemRead, Stuck, item_read, ended, NoBracketOrMark}
+use Rattle.format_read.specs.Steps.{number_at, NumberFound, outside_after, found, ItemRead, Stuck, item_read, ended, NoBracketOrMark}
+use Rattle.format_read.specs.declared.Found.{Found}
 use Rattle.format_read.specs.declared.Single.{Single}
 use Rattle.format_read.specs.declared.Ungrammatical.{Ungrammatical}
-use Rattle.format_read.proofs.SingleSteps.{times_at, times_few, outside_append, number_stuck, number_on, plain_word}
+use Rattle.format_read.proofs.SingleSteps.{Ends, one_missing, one_read, ends-T, not_some, times_at, outside_append, number_stuck, number_on}
 
 module _ {s : List ℕ} {from at : ℕ} {v : Option ℕ} (f : NumberFound s from v at) (h : at < length s) where
   -- a letter that a number follows
@@ -28,16 +29,12 @@ module _ {s : List ℕ} {from at : ℕ} {v : Option ℕ} (f : NumberFound s from
       let k = number_at from v in
       record {
         item = i.item;
-        met = i.met;
         late = repeat_numbers k ++ i.late;
         first = i.first;
         runs = λ l xs q. number_on f Use.start h (λ l xs q. State.within (Mode.digits u (at + 1) 0) l xs q) g (λ l xs q a b. refl) l xs q ∙ i.runs l xs q;
-        means = i.means;
-        kind = i.kind;
+        no_characters = i.no_characters;
         numbers_are = i.numbers_are;
         outside_is = i.outside_is ∙ ap (λ (z : Option ℕ). outside_after z i.late) out ∙ sym (outside_append o (repeat_numbers k) i.late);
-        low_word = i.low_word;
-        few = i.few;
         more = omega (arith, f.low, i.more);
         high = i.high;
       }
@@ -47,22 +44,18 @@ module _ {s : List ℕ} {from at : ℕ} {v : Option ℕ} (f : NumberFound s from
   pub begun_stuck : ((l : ℕ) (xs : Items) (q : Open) → begun (number_at from v) at l xs q (get_or s at 0) ≡ State.dead) → Stuck s from (wanted from) at
   begun_stuck g = number_stuck f Use.start g
 
-  pub slash_read : get_or s at 0 ≡ 47 → (r : ℕ) → r ≡ unwrap_or v 1 → (o o₁ : Option ℕ) → o₁ ≡ outside_after o (repeat_numbers (number_at from v)) → ItemRead s from (wanted from) [] (from + 1) o 7 r (at + 1) o₁
+  pub slash_read : get_or s at 0 ≡ 47 → (r : ℕ) → r ≡ unwrap_or v 1 → (o o₁ : Option ℕ) → o₁ ≡ outside_after o (repeat_numbers (number_at from v)) → ItemRead s from (wanted from) [] (from + 1) o word.Slash r (at + 1) o₁
   unfolding numbers
   slash_read g r rep o o₁ out =
       let k = number_at from v in
       record {
         item = Items.slash k Items.none;
-        met = Met.slash;
         late = repeat_numbers k;
-        first = subst (λ (m : ℕ). First (Items.slash k Items.none) m Met.slash Items.none) (times_at from v ∙ sym rep) First.slash;
+        first = λ t. subst (λ (m : ℕ). First (Items.slash k Items.none) m Met.slash Items.none) (times_at from v ∙ sym rep) First.slash;
         runs = number_on f Use.start h (λ l xs q. State.within Mode.after l (join xs (Items.slash k Items.none)) q) (λ l xs q. rw g) (λ l xs q a b. refl);
-        means = λ t. met_slash t;
-        kind = omega arith;
+        no_characters = refl;
         numbers_are = append-nil (repeat_numbers k);
         outside_is = out;
-        low_word = omega arith;
-        few = rw rep (times_few f);
         more = omega (arith, f.low);
         high = omega arith;
       }
@@ -74,32 +67,53 @@ module _ {s : List ℕ} {from at : ℕ} {v : Option ℕ} (f : NumberFound s from
       begun_stuck (λ l' xs q. simp (ne_eqb b 73 i, ne_eqb b 70 j, ne_eqb b 76 l, ne_eqb b 65 a, ne_eqb b 40 n.no_bracket, ne_eqb b 88 x, ne_eqb b 84 t, ne_eqb b 47 d, ne_eqb b 39 n.no_apostrophe, ne_eqb b 34 n.no_quotation_mark))
 
 pub X-read : {s : List ℕ} {from v at : ℕ} → NumberFound s from (Some v) at → at < length s → get_or s at 0 ≡ 88 → (o o₁ : Option ℕ) → o₁ ≡ outside_after o (repeat_numbers (Repeat.given (number from v)))
-    → ItemRead s from (wanted from) [] (from + 1) o (v * 16 + 5) 1 (at + 1) o₁
+    → ItemRead s from (wanted from) [] (from + 1) o (word.X v) 1 (at + 1) o₁
 unfolding numbers
 X-read {s} {from} {v} {at} f h g o o₁ out =
     let n = number from v in
     record {
       item = Items.X n Items.none;
-      met = Met.X v;
       late = ranged n 1 255 ∷ [];
-      first = First.X;
+      first = λ t. First.X;
       runs = number_on f Use.start h (λ l xs q. State.within Mode.after l (join xs (Items.X n Items.none)) q) (λ l xs q. rw g) (λ l xs q a b. refl);
-      means = λ t. subst (λ (w : ℕ). met_of t w ≡ Met.X v) (plain_word kind_x v) (met-X t v (omega (arith, f.small)));
-      kind = omega arith;
+      no_characters = refl;
       numbers_are = refl;
       outside_is = out;
-      low_word = omega (arith, f.small);
-      few = omega arith;
       more = omega (arith, f.low);
       high = omega arith;
     }
 
--- T and its number: no digit may stand before it
+-- a letter that asks for one number
+module _ {s : List ℕ} {from at high : ℕ} {v : Option ℕ} {u : Use} {k : Repeat} {w : ℕ → Word} (f : NumberFound s from v at) (h : at < length s) (is : k ≡ number_at from v) (e : Ends u k w high)
+    (letter : (l : ℕ) (xs : Items) (q : Open) → begun (number_at from v) at l xs q (get_or s at 0) ≡ State.within (Mode.digits u (at + 1) 0) l xs q) where
+  pub letter_missing : {x : Ungrammatical} → NumberFound s (at + 1) None x.place → (o : Option ℕ) → Stuck s from (wanted from) x.place
+  letter_missing {x} g o = begun_read f h u letter o _ refl (Err x) (one_missing e g)
+
+  pub letter_read : {x : Found} (o o₁ : Option ℕ) → o₁ ≡ outside_after o (repeat_numbers (number_at from v)) → found s (at + 1) high o₁ (Ok x) → (r : ℕ) → times k ≡ r
+      → ItemRead s from (wanted from) [] (from + 1) o (w x.value) r x.next x.outside
+  letter_read {x} o o₁ out g r rep =
+      begun_read f h u letter o o₁ out (Ok (record { word = w x.value; repeat = r; next = x.next; outside = x.outside }))
+      (subst (λ z. ItemRead s (at + 1) (Mode.digits u (at + 1) 0) (repeat_numbers z) (at + 1) o₁ (w x.value) r x.next x.outside) is (one_read e g.0 r rep o₁ x.outside g.1))
+
+-- T: no digit may stand before it
 pub T-after_digits : {s : List ℕ} {from at : ℕ} {v : Option ℕ} → NumberFound s from v at → at < length s → get_or s at 0 ≡ 84 → is_some v ≡ true → Stuck s from (wanted from) at
 T-after_digits {v = None} f h g e = absurd (cc)
 T-after_digits {v = Some v} f h g e = begun_stuck f h (λ l xs q. rw g)
 
-pub T-read : {s : List ℕ} {from at : ℕ} {v : Option ℕ} → NumberFound s from v at → at < length s → get_or s at 0 ≡ 84 → is_some v ≡ false → (o o₁ : Option ℕ) → o₁ ≡ outside_after o (repeat_numbers (number_at from v))
-    → (x : Result Single Ungrammatical) → ended s (at + 1) Use.column Repeat.absent o₁ x → item_read s from (wanted from) [] (from + 1) o x
-T-read {v = None} f h g e o o₁ out x i = begun_read f h Use.column (λ l xs q. rw g) o o₁ out x i
-T-read {v = Some v} f h g e o o₁ out x i = absurd (cc)
+module _ {s : List ℕ} {from at : ℕ} {v : Option ℕ} (f : NumberFound s from v at) (h : at < length s) (g : get_or s at 0 ≡ 84) (e : is_some v ≡ false) where
+  none_before : v ≡ None
+  none_before = not_some v e
+
+  -- the letter, and the number that it asks for
+  column_on : (l : ℕ) (xs : Items) (q : Open) → begun (number_at from v) at l xs q (get_or s at 0) ≡ State.within (Mode.digits Use.column (at + 1) 0) l xs q
+  column_on l xs q = rw (g, none_before)
+
+  absent_is : Repeat.absent ≡ number_at from v
+  absent_is = rw none_before
+
+  pub T-missing : {x : Ungrammatical} → NumberFound s (at + 1) None x.place → (o : Option ℕ) → Stuck s from (wanted from) x.place
+  T-missing m o = letter_missing f h absent_is ends-T column_on m o
+
+  pub T-read : {x : Found} (o o₁ : Option ℕ) → o₁ ≡ outside_after o (repeat_numbers (number_at from v)) → found s (at + 1) 255 o₁ (Ok x)
+      → ItemRead s from (wanted from) [] (from + 1) o (word.T x.value) 1 x.next x.outside
+  T-read o o₁ out m = letter_read f h absent_is ends-T column_on o o₁ out m 1 refl

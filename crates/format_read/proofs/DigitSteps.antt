@@ -64,8 +64,8 @@ digits_all {s} {at} {value} {i} f e = go (ltb at i) refl
     go : (t : Bool) → ltb at i ≡ t → NumberFound s at (then_some t value) i
     go true g =
         let h : at < i = ltb-true at i g in
-        record { runs = f.runs; stops = e; number_is = written_given at i value (λ z. omega arith); empty = λ z. absurd (cc); small = f.small; low = f.low; high = f.high }
+        record { runs = f.runs; stops = e; number_is = written_given at i value (λ z. omega arith); empty = λ z. absurd (cc); low = f.low; high = f.high }
     go false g =
         let h : i ≡ at = omega (arith, ltb-false at i g, f.low) in
         let none : value ≡ 0 = omega (arith, f.small0 (omega arith)) in
-        record { runs = rw none at f.runs; stops = e; number_is = written_absent at i 0 h; empty = λ _. h; small = omega arith; low = f.low; high = f.high }
+        record { runs = rw none at f.runs; stops = e; number_is = written_absent at i 0 h; empty = λ _. h; low = f.low; high = f.high }

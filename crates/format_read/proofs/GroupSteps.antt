@@ -1,63 +1,50 @@
 -- Groups, and items one after another in brackets.
 -- Assumes nothing.
 use mathlib.Core.Path.{◌≡◌, refl, sym, ap, ◌∙◌, subst}
-use mathlib.Core.List.{List, ◌++◌, append-nil}
+use mathlib.Core.List.{List, ◌∷◌, ◌++◌, append-nil}
 use Prim.Native.Nat.{ℕ, ◌+◌, ◌-◌, ◌<◌, ◌≤◌}
 use native.Mathlib.Omega.{arith}
 use borrow.Author.Tests.{ne_eqb}
-use lib.ListN.{length, get_or, take, set, length-set}
+use lib.ListN.{length, get_or, take, set}
+use lib.Seq.{take-set-le, take-take}
 use Rattle.std.specs.Prelude.{Option}
-use lib.Seq.{get_or-set_same, get_or-set_other, take-set-le, take-take, get_or-take}
-use Rattle.format_items.specs.Items.{times, Items, join}
+use Rattle.format_items.specs.Items.{Items, join}
 use Rattle.format_items.specs.Ranges.{repeat_numbers, numbers}
 use Rattle.format_grammar.specs.Reading.{Mode, Open, State, step, step_within, wanted, close, read_at}
 use Rattle.format_items.proofs.ItemLaws.{join_assoc, join_right, numbers_join}
 use Rattle.format_grammar.proofs.ReadLaws.{read_step, read_stuck, close_live}
-use Rattle.format_words.specs.Words.{word, entry, kind_group}
-use Rattle.format_words.specs.Held.{GroupEntry, Holds}
-use Rattle.format_words.proofs.WordLaws.{kind_word, first_word, word_entry, repeat_entry}
+use Rattle.format_words.specs.declared.Entry.{Entry}
+use Rattle.format_words.specs.declared.Entry.TheVariants as entry
+use Rattle.format_words.specs.Held.{Holds}
 use Rattle.format_words.proofs.HeldLaws.{holds_join, holds_kept}
-use Rattle.format_read.specs.Steps.{outside_after, Room, NoItem, Took, Opened}
+use Rattle.format_read.specs.Steps.{outside_after, Room, NoItem, between, Took, Opened}
 use Rattle.format_read.specs.declared.Position.{Position}
 use Rattle.format_read.proofs.SingleSteps.{outside_append, outside_none}
+use Rattle.format_read.proofs.TakeSteps.{between_put, between_more, between_kept, between_long}
 
 -- ---- a group
 
-group_entry : (n end r : ℕ) → n < end → end ≤ 1024 → r < 1000 → GroupEntry (entry (word kind_group (end - (n + 1)) 0) r) r n end
-group_entry n end r h g few =
-    let x = end - (n + 1) in
-    let e = word_entry (word kind_group x 0) r (omega arith) in
-    record {
-      kind = rw e (kind_word kind_group x 0 (omega arith));
-      inside = rw e (omega (arith, first_word kind_group x 0 (omega arith) (omega arith)));
-      repeats = repeat_entry (word kind_group x 0) r (omega arith);
-    }
+module _ {s : List ℕ} {l r : ℕ} {p inside p' : Position} {a b d : List Entry} {t u v : List ℕ} (room : Room s p a) (o : Opened s l p inside r a t b u)
+    (k : Took s (l - 1) (wanted inside.at) close inside b u p' d v) (long : length d ≡ length a) where
+  -- its entry, which comes before those of its items
+  pub group_fits : (p.entries < length d) × (inside.entries ≤ p'.entries) × (p'.entries ≤ 1024)
+  group_fits = (omega (arith, k.more_entries, o.entries_are, k.few_entries, k.high, room.entries_fit), k.more_entries, omega (arith, k.few_entries, k.high, room.short))
 
-module _ {s : List ℕ} {l r : ℕ} {p inside p' : Position} {a t b u d v : List ℕ} (room : Room s p a) (o : Opened s l p inside r a t b u) (k : Took s (l - 1) (wanted inside.at) close inside b u p' d v)
-    (long : length d ≡ length a) where
-  pub group_fits : (p.entries < p'.entries) × (p'.entries ≤ 1024) × (p'.entries ≤ length d) × (r < 1000)
-  group_fits =
-      (omega (arith, k.more_entries, o.entries_are), omega (arith, k.few_entries, k.high, room.short), omega (arith, k.few_entries, k.high, room.entries_fit), o.few)
-
-  pub took_group : (e : List ℕ) → e ≡ set d p.entries (entry (word kind_group (p'.entries - (p.entries + 1)) 0) r) → Took s l (wanted p.at) (State.within Mode.after) p a t p' e v
+  pub took_group : (e : List Entry) → e ≡ set d p.entries (entry.Group (p'.entries - inside.entries) r) → Took s l (wanted p.at) (State.within Mode.after) p a t p' e v
   unfolding join numbers
   took_group e g =
       let n = p.entries in
-      let w = entry (word kind_group (p'.entries - (n + 1)) 0) r in
-      let fits = group_fits in
+      let m = p'.entries in
+      let w = entry.Group (m - inside.entries) r in
       let back : l - 1 + 1 ≡ l = omega (arith, o.deep) in
-      let room-d : n < length d = omega (arith, fits.0, fits.2) in
-      let is : get_or e n 0 ≡ w = ap (λ (z : List ℕ). get_or z n 0) g ∙ get_or-set_same d n w 0 room-d in
-      let same-long : length e ≡ length d = ap length g ∙ length-set d n w in
-      let inner : Holds d v p'.chars (l - 1) (n + 1) k.items p'.entries = subst (λ (j : ℕ). Holds d v p'.chars (l - 1) j k.items p'.entries) o.entries_are k.holds in
-      let kept : Holds e v p'.chars (l - 1) (n + 1) k.items p'.entries
-      = holds_kept inner (sym same-long) (λ i lo hi. ap (λ (z : List ℕ). get_or z i 0) g ∙ get_or-set_other d n i w 0 (λ z. omega arith)) refl (omega arith) in
-      let ge : GroupEntry (get_or e n 0) (times o.k) n p'.entries =
-      subst (λ (x : ℕ). GroupEntry x (times o.k) n p'.entries) (sym is) (subst (λ (x : ℕ). GroupEntry w x n p'.entries) (sym o.repeats) (group_entry n p'.entries r fits.0 fits.1 o.few)) in
+      let one = between (n + 1) m d in
+      let inner : Holds v p'.chars (l - 1) one k.items = subst (λ (j : ℕ). Holds v p'.chars (l - 1) (between j m d) k.items) o.entries_are k.holds in
+      let many : m - inside.entries ≡ length one = rw (o.entries_are, between_long d (n + 1) m (omega (arith, k.more_entries, o.entries_are)) (omega (arith, k.few_entries, k.high, room.entries_fit))) in
+      let whole : Holds v p'.chars (l - 1 + 1) (w ∷ one) (Items.group o.k k.items Items.none) = Holds.group many (sym o.repeats) (sym (append-nil one)) inner Holds.none in
       record {
         items = Items.group o.k k.items Items.none;
         runs = λ xs q. o.runs xs q ∙ k.runs Items.none (Open.group xs o.k q) ∙ ap (λ (j : ℕ). read_at s p'.at (State.within Mode.after j (join xs (Items.group o.k k.items Items.none)) q)) back;
-        holds = subst (λ (j : ℕ). Holds e v p'.chars j n (Items.group o.k k.items Items.none) p'.entries) back (Holds.group {n = n} (omega arith) ge kept Holds.none);
+        holds = rw (g, between_put d n m w (omega (arith, k.more_entries, o.entries_are)) group_fits.0) (subst (λ (j : ℕ). Holds v p'.chars j (w ∷ one) (Items.group o.k k.items Items.none)) back whole);
         entries_kept = ap (take n) g ∙ take-set-le n d n w (omega arith) ∙ sym (take-take n (n + 1) d (omega arith))
             ∙ ap (take n) (subst (λ (j : ℕ). take j d ≡ take j b) o.entries_are k.entries_kept ∙ ap (take (n + 1)) o.same_entries) ∙ take-take n (n + 1) a (omega arith);
         chars_kept = subst (λ (j : ℕ). take j v ≡ take j u) o.chars_are k.chars_kept ∙ ap (take p.chars) o.same_chars;
@@ -67,17 +54,17 @@ module _ {s : List ℕ} {l r : ℕ} {p inside p' : Position} {a t b u d v : List
         high = k.high;
         few_entries = k.few_entries;
         few_chars = k.few_chars;
-        more_entries = omega (arith, fits.0);
+        more_entries = omega (arith, k.more_entries, o.entries_are);
         more_chars = omega (arith, k.more_chars, o.chars_are);
       }
 
 -- ---- items after one another
 
 -- from the first position on, items and a comma after each were read up to p
-pub record SoFar (s : List ℕ) (l : ℕ) (start : Position) (a t : List ℕ) (p : Position) (b u : List ℕ) : Type 0 where
+pub record SoFar (s : List ℕ) (l : ℕ) (start : Position) (a : List Entry) (t : List ℕ) (p : Position) (b : List Entry) (u : List ℕ) : Type 0 where
   pub items : Items
   pub runs : (xs : Items) (q : Open) → read_at s start.at (State.within (wanted start.at) l xs q) ≡ read_at s p.at (State.within (wanted p.at) l (join xs items) q)
-  pub holds : Holds b u p.chars l start.entries items p.entries
+  pub holds : Holds u p.chars l (between start.entries p.entries b) items
   pub entries_kept : take start.entries b ≡ take start.entries a
   pub chars_kept : take start.chars u ≡ take start.chars t
   pub outside_is : p.outside ≡ outside_after start.outside (numbers items)
@@ -88,13 +75,13 @@ pub record SoFar (s : List ℕ) (l : ℕ) (start : Position) (a t : List ℕ) (p
   pub more_entries : start.entries ≤ p.entries
   pub more_chars : start.chars ≤ p.chars
 
-pub so_far_none : {s : List ℕ} {l : ℕ} {start : Position} {a t : List ℕ} → Room s start a → SoFar s l start a t start a t
+pub so_far_none : {s : List ℕ} {l : ℕ} {start : Position} {a : List Entry} {t : List ℕ} → Room s start a → SoFar s l start a t start a t
 unfolding numbers
 so_far_none {s} {l} {start} {a} {t} room =
     record {
       items = Items.none;
       runs = λ xs q. ap (λ (x : Items). read_at s start.at (State.within (wanted start.at) l x q)) (sym (join_right xs));
-      holds = Holds.none;
+      holds = let none : start.entries - start.entries ≡ 0 = omega arith in rw none Holds.none;
       entries_kept = refl;
       chars_kept = refl;
       outside_is = sym (outside_none start.outside);
@@ -106,12 +93,12 @@ so_far_none {s} {l} {start} {a} {t} room =
       more_chars = omega arith;
     }
 
-module _ {s : List ℕ} {l : ℕ} {start p : Position} {a t b u : List ℕ} (f : SoFar s l start a t p b u) where
+module _ {s : List ℕ} {l : ℕ} {start p : Position} {a b : List Entry} {t u : List ℕ} (f : SoFar s l start a t p b u) where
   pub so_far_wrong : (x : ℕ) → NoItem s l p.at x
       → NoItem s l start.at x
   so_far_wrong x g xs q = f.runs xs q ∙ g (join xs f.items) q
 
-  module _ {p' : Position} {d v : List ℕ} (k : Took s l (wanted p.at) (State.within Mode.after) p b u p' d v) where
+  module _ {p' : Position} {d : List Entry} {v : List ℕ} (k : Took s l (wanted p.at) (State.within Mode.after) p b u p' d v) where
     both : Items
     both = join f.items k.items
 
@@ -125,12 +112,11 @@ module _ {s : List ℕ} {l : ℕ} {start p : Position} {a t b u : List ℕ} (f :
 
     module _ (h : p'.at < length s) where
       module _ (long : length d ≡ length b) (long-v : length v ≡ length u) where
-        same_entry : (i : ℕ) → i < p.entries → get_or d i 0 ≡ get_or b i 0
-        same_entry i g = sym (get_or-take p.entries d i 0 g) ∙ ap (λ (z : List ℕ). get_or z i 0) k.entries_kept ∙ get_or-take p.entries b i 0 g
-
-        held_both : Holds d v p'.chars l start.entries both p'.entries
+        held_both : Holds v p'.chars l (between start.entries p'.entries d) both
         unfolding both
-        held_both = holds_join (holds_kept f.holds (sym long) (λ i lo hi. same_entry i hi) k.chars_kept k.more_chars) k.holds
+        held_both =
+            rw (between_more d start.entries p.entries p'.entries f.more_entries k.more_entries, between_kept b d start.entries p.entries p.entries f.more_entries (omega arith) k.entries_kept)
+            (holds_join (holds_kept f.holds k.chars_kept k.more_chars) k.holds)
 
         kept_entries : take start.entries d ≡ take start.entries a
         kept_entries = sym (take-take start.entries p.entries d f.more_entries) ∙ ap (take start.entries) k.entries_kept ∙ take-take start.entries p.entries b f.more_entries ∙ f.entries_kept

@@ -13,10 +13,11 @@ use Rattle.std.specs.Prelude.{Option, Some, None, is_some, unwrap_or}
 use Rattle.format_items.specs.Items.{Items}
 use Rattle.format_items.specs.Ranges.{repeat_numbers}
 use Rattle.format_grammar.specs.Reading.{Use, Open, State, Reading, wanted, read_at}
+use Rattle.format_words.specs.declared.Entry.{Entry}
 use Rattle.format_read.specs.Steps.{number_at, NumberFound, outside_after, Stuck, NoBracketOrMark, Opened}
 use Rattle.format_read.specs.declared.Position.{Position}
 use Rattle.format_grammar.proofs.Cases.{is_mark}
-use Rattle.format_read.proofs.SingleSteps.{times_at, times_few, number_stuck_at, number_on_at}
+use Rattle.format_read.proofs.SingleSteps.{times_at, number_stuck_at, number_on_at}
 use Rattle.format_read.proofs.BegunSteps.{begun_stuck}
 
 -- ---- an opening bracket
@@ -26,7 +27,7 @@ module _ {s : List ℕ} {at l : ℕ} {v : Option ℕ} (p : Position) (f : Number
   pub too_deep : l ≡ 0 → (xs : Items) (q : Open) → read_at s p.at (State.within (wanted p.at) l xs q) ≡ Reading.wrong at
   too_deep z xs q = number_stuck_at f Use.start l xs q (rw (e, eq-eqb l 0 z))
 
-  pub opened : (l ≡ 0 → ⊥) → (r : ℕ) (o : Option ℕ) → r ≡ unwrap_or v 1 → o ≡ outside_after p.outside (repeat_numbers (number_at p.at v)) → (a t : List ℕ)
+  pub opened : (l ≡ 0 → ⊥) → (r : ℕ) (o : Option ℕ) → r ≡ unwrap_or v 1 → o ≡ outside_after p.outside (repeat_numbers (number_at p.at v)) → (a : List Entry) (t : List ℕ)
       → Opened s l p (record { at = at + 1; entries = p.entries + 1; chars = p.chars; outside = o }) r a t a t
   opened z r o rep out a t =
       let k = number_at p.at v in
@@ -40,7 +41,6 @@ module _ {s : List ℕ} {at l : ℕ} {v : Option ℕ} (p : Position) (f : Number
         entries_are = refl;
         chars_are = refl;
         deep = omega arith;
-        few = rw rep (times_few f);
         more = omega (arith, f.low);
         high = omega arith;
       }

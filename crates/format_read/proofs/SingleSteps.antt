@@ -3,8 +3,7 @@
 use mathlib.Core.Path.{◌≡◌, refl, sym, ap, ◌∙◌, subst}
 use mathlib.Core.Bool.{Bool, true, false}
 use mathlib.Core.List.{List, [], ◌∷◌, ◌++◌, append-nil}
-use Prim.Native.Nat.{ℕ, ◌+◌, ◌*◌, ◌<◌, ◌≤◌}
-use native.Mathlib.Nat.{zero-add}
+use Prim.Native.Nat.{ℕ, ◌+◌, ◌<◌, ◌≤◌}
 use native.Mathlib.Omega.{arith}
 use borrow.Author.Tests.{eq-eqb, ne_eqb}
 use lib.Dec.{eqb}
@@ -13,14 +12,15 @@ use Rattle.std.specs.Prelude.{Option, Some, None, is_some, unwrap_or, Result, Er
 use Rattle.std.specs.Option.{ok_or}
 use Rattle.std.proofs.lemmas.Result.{err_from_is_err_and}
 use Rattle.format_items.specs.Items.{Number, number, value_of, Repeat, times, Field, Items, join}
-use Rattle.format_items.specs.Ranges.{Ranged, ranged, repeat_numbers, field_numbers, numbers}
-use Rattle.format_items.specs.Met.{Met, field_values}
+use Rattle.format_items.specs.Ranges.{Ranged, ranged, repeat_numbers, numbers}
+use Rattle.format_items.specs.Met.{Met}
 use Rattle.format_grammar.specs.Reading.{Use, Mode, Open, State, Reading, pick, step, step_within, unless_dead, used, separated, read_at}
 use Rattle.format_grammar.proofs.ReadLaws.{read_step, read_end, read_same, read_stuck, step_used}
-use Rattle.format_words.specs.Words.{word, kind_of, met_of, kind_base, first_base, kind_i, kind_f, kind_l, kind_aw, kind_t, kind_literal}
+use Rattle.format_words.specs.Words.{met_of, reach}
+use Rattle.format_words.specs.declared.Word.{Word}
+use Rattle.format_words.specs.declared.Word.TheVariants as word
 use Rattle.format_words.specs.Held.{First}
-use Rattle.format_words.proofs.WordLaws.{met-I, met-F, met-L, met-A, met-Aw, met-T}
-use Rattle.format_read.specs.Steps.{number_at, NumberFound, keep_first, outside_after, ItemRead, Stuck, Ends}
+use Rattle.format_read.specs.Steps.{number_at, NumberFound, keep_first, outside_after, ItemRead, Stuck}
 
 -- ---- numbers out of range
 
@@ -58,10 +58,6 @@ pub times_at : (at : ℕ) (v : Option ℕ) → times (number_at at v) ≡ unwrap
 times_at at None = refl
 times_at at (Some v) = refl
 
-pub times_few : {s : List ℕ} {at next : ℕ} {v : Option ℕ} → NumberFound s at v next → unwrap_or v 1 < 1000
-times_few {v = None} f = omega arith
-times_few {v = Some v} f = f.small
-
 -- ---- the byte after a number
 
 pub pick_same : (t : Bool) (a : State) → pick t a a ≡ a
@@ -98,114 +94,105 @@ module _ {s : List ℕ} {from at : ℕ} {v : Option ℕ} (f : NumberFound s from
       → (l : ℕ) (xs : Items) (q : Open) → read_at s from (State.within (Mode.digits u from 0) l xs q) ≡ read_at s (at + 1) (to l xs q)
   number_on h to g live l xs q = number_on_at h l xs q (to l xs q) (g l xs q) (live l xs q)
 
--- ---- words of items
-
-kind_of_lem : (v k : ℕ) → k < kind_base → kind_of (v * kind_base + k) ≡ k
-kind_of_lem v k h = omega arith
-
-pub plain_word : (k v : ℕ) → word k v 0 ≡ v * kind_base + k
-plain_word k v = simp zero-add
-
 -- ---- I, L and T: one number
 
-module _ {s : List ℕ} {at next : ℕ} {u : Use} {k : Repeat} {kind high : ℕ} (e : Ends u k kind high) where
+-- one number, from 1 to `high`, ends an item whose repeat is k and whose word is w of its value
+pub record Ends (u : Use) (k : Repeat) (w : ℕ → Word) (high : ℕ) : Type 0 where
+  pub item : Number → Items
+  pub needed : (at l : ℕ) (xs : Items) (q : Open) (b : ℕ) → used u Repeat.absent at l xs q b ≡ State.dead
+  pub enough : (n : Number) (at l : ℕ) (xs : Items) (q : Open) (b : ℕ) → used u (Repeat.given n) at l xs q b ≡ separated at l (join xs (item n)) q b
+  pub first : (t : List ℕ) (n : Number) → First (item n) (times k) (met_of t (w (value_of n))) Items.none
+  pub no_characters : (v : ℕ) → reach (w v) ≡ 0
+  pub numbers_are : (n : Number) → numbers (item n) ≡ repeat_numbers k ++ ranged n 1 high ∷ []
+
+module _ {s : List ℕ} {at next : ℕ} {u : Use} {k : Repeat} {w : ℕ → Word} {high : ℕ} (e : Ends u k w high) where
   pub one_missing : NumberFound s at None next → Stuck s at (Mode.digits u at 0) next
   one_missing f = number_stuck f u (λ l xs q. e.needed next l xs q (get_or s next 0))
 
-  pub one_read : {v : ℕ} → NumberFound s at (Some v) next → kind < kind_literal → (r : ℕ) → times k ≡ r → r < 1000 → (o o' : Option ℕ) → o' ≡ keep_first o (ranged (number at v) 1 high)
-      → ItemRead s at (Mode.digits u at 0) (repeat_numbers k) at o (v * kind_base + kind) r next o'
-  one_read {v} f low r rep few o o' out =
+  pub one_read : {v : ℕ} → NumberFound s at (Some v) next → (r : ℕ) → times k ≡ r → (o o' : Option ℕ) → o' ≡ keep_first o (ranged (number at v) 1 high)
+      → ItemRead s at (Mode.digits u at 0) (repeat_numbers k) at o (w v) r next o'
+  one_read {v} f r rep o o' out =
       let n = number at v in
       record {
         item = e.item n;
-        met = e.met n;
         late = ranged n 1 high ∷ [];
-        first = subst (λ (m : ℕ). First (e.item n) m (e.met n) Items.none) rep (e.first n);
+        first = λ t. subst (λ (m : ℕ). First (e.item n) m (met_of t (w v)) Items.none) rep (e.first t n);
         runs = number_ends f u (e.item n) (λ l xs q b. e.enough n next l xs q b);
-        means = λ t. subst (λ (w : ℕ). met_of t w ≡ e.met n) (plain_word kind v) (e.means t n (omega (arith, f.small)));
-        kind = rw (kind_of_lem v kind (omega arith)) low;
+        no_characters = e.no_characters v;
         numbers_are = e.numbers_are n;
         outside_is = out ∙ sym (outside_one o (ranged n 1 high));
-        low_word = omega (arith, f.small);
-        few = few;
         more = f.low;
         high = f.high;
       }
 
 -- ---- what each letter asks for
 
-ends_field : (u : Use) (k : Repeat) (kind : ℕ) (f : Number → Field Number) → ((at l : ℕ) (xs : Items) (q : Open) (b : ℕ) → used u Repeat.absent at l xs q b ≡ State.dead)
-    → ((n : Number) (at l : ℕ) (xs : Items) (q : Open) (b : ℕ) → used u (Repeat.given n) at l xs q b ≡ separated at l (join xs (Items.field k (f n) Items.none)) q b)
-    → ((t : List ℕ) (n : Number) → value_of n < 1024 → met_of t (word kind (value_of n) 0) ≡ Met.field (field_values (f n))) → ((n : Number) → field_numbers (f n) ≡ ranged n 1 64 ∷ []) → Ends u k kind 64
+pub ends-I : (k : Repeat) → Ends (Use.width_i k) k word.I 64
 unfolding numbers
-ends_field u k kind f needed enough means ns =
+ends-I k =
     record {
-      item = λ w. Items.field k (f w) Items.none;
-      met = λ w. Met.field (field_values (f w));
-      needed = needed;
-      enough = enough;
-      first = λ n. First.field;
-      means = means;
-      numbers_are = λ n. append-nil (repeat_numbers k ++ field_numbers (f n)) ∙ ap (λ (l : List Ranged). repeat_numbers k ++ l) (ns n);
+      item = λ w. Items.field k (Field.I w) Items.none;
+      needed = λ at l xs q b. refl;
+      enough = λ n at l xs q b. refl;
+      first = λ t n. First.field;
+      no_characters = λ v. refl;
+      numbers_are = λ n. append-nil (repeat_numbers k ++ ranged n 1 64 ∷ []);
     }
 
-pub ends-I : (k : Repeat) → Ends (Use.width_i k) k kind_i 64
-ends-I k = ends_field (Use.width_i k) k kind_i Field.I (λ at l xs q b. refl) (λ n at l xs q b. refl) (λ t n. met-I t (value_of n)) (λ n. refl)
+pub ends-L : (k : Repeat) → Ends (Use.width_l k) k word.L 64
+unfolding numbers
+ends-L k =
+    record {
+      item = λ w. Items.field k (Field.L w) Items.none;
+      needed = λ at l xs q b. refl;
+      enough = λ n at l xs q b. refl;
+      first = λ t n. First.field;
+      no_characters = λ v. refl;
+      numbers_are = λ n. append-nil (repeat_numbers k ++ ranged n 1 64 ∷ []);
+    }
 
-pub ends-L : (k : Repeat) → Ends (Use.width_l k) k kind_l 64
-ends-L k = ends_field (Use.width_l k) k kind_l Field.L (λ at l xs q b. refl) (λ n at l xs q b. refl) (λ t n. met-L t (value_of n)) (λ n. refl)
-
-pub ends-T : Ends Use.column Repeat.absent kind_t 255
+pub ends-T : Ends Use.column Repeat.absent word.T 255
 unfolding numbers
 ends-T =
     record {
       item = λ n. Items.T n Items.none;
-      met = λ n. Met.T (value_of n);
       needed = λ at l xs q b. refl;
       enough = λ n at l xs q b. refl;
-      first = λ n. First.T;
-      means = λ t n h. met-T t (value_of n) h;
+      first = λ t n. First.T;
+      no_characters = λ v. refl;
       numbers_are = λ n. refl;
     }
 
 -- ---- A: a number or none
 
-module _ {s : List ℕ} {at next : ℕ} (k : Repeat) (r : ℕ) (rep : times k ≡ r) (few : r < 1000) (o : Option ℕ) where
-  pub text_alone : NumberFound s at None next → ItemRead s at (Mode.digits (Use.width_a k) at 0) (repeat_numbers k) at o 3 r next o
+module _ {s : List ℕ} {at next : ℕ} (k : Repeat) (r : ℕ) (rep : times k ≡ r) (o : Option ℕ) where
+  pub text_alone : NumberFound s at None next → ItemRead s at (Mode.digits (Use.width_a k) at 0) (repeat_numbers k) at o word.A r next o
   unfolding numbers
   text_alone f =
       record {
         item = Items.field k Field.A Items.none;
-        met = Met.field Field.A;
         late = [];
-        first = subst (λ (m : ℕ). First (Items.field k Field.A Items.none) m (Met.field Field.A) Items.none) rep First.field;
+        first = λ t. subst (λ (m : ℕ). First (Items.field k Field.A Items.none) m (Met.field Field.A) Items.none) rep First.field;
         runs = number_ends f (Use.width_a k) (Items.field k Field.A Items.none) (λ l xs q b. refl);
-        means = λ t. met-A t;
-        kind = omega arith;
+        no_characters = refl;
         numbers_are = append-nil (repeat_numbers k ++ []);
         outside_is = sym (outside_none o);
-        low_word = omega arith;
-        few = few;
         more = f.low;
         high = f.high;
       }
 
-  pub text_wide : {v : ℕ} → NumberFound s at (Some v) next → (o' : Option ℕ) → o' ≡ keep_first o (ranged (number at v) 1 64) → ItemRead s at (Mode.digits (Use.width_a k) at 0) (repeat_numbers k) at o (v * kind_base + kind_aw) r next o'
+  pub text_wide : {v : ℕ} → NumberFound s at (Some v) next → (o' : Option ℕ) → o' ≡ keep_first o (ranged (number at v) 1 64) → ItemRead s at (Mode.digits (Use.width_a k) at 0) (repeat_numbers k) at o (word.Aw v) r next o'
   unfolding numbers
   text_wide {v} f o' out =
       let n = number at v in
       record {
         item = Items.field k (Field.Aw n) Items.none;
-        met = Met.field (Field.Aw v);
         late = ranged n 1 64 ∷ [];
-        first = subst (λ (m : ℕ). First (Items.field k (Field.Aw n) Items.none) m (Met.field (Field.Aw v)) Items.none) rep First.field;
+        first = λ t. subst (λ (m : ℕ). First (Items.field k (Field.Aw n) Items.none) m (Met.field (Field.Aw v)) Items.none) rep First.field;
         runs = number_ends f (Use.width_a k) (Items.field k (Field.Aw n) Items.none) (λ l xs q b. refl);
-        means = λ t. subst (λ (w : ℕ). met_of t w ≡ Met.field (Field.Aw v)) (plain_word kind_aw v) (met-Aw t v (omega (arith, f.small)));
-        kind = omega arith;
+        no_characters = refl;
         numbers_are = append-nil (repeat_numbers k ++ ranged n 1 64 ∷ []);
         outside_is = out ∙ sym (outside_one o (ranged n 1 64));
-        low_word = omega (arith, f.small);
-        few = few;
         more = f.low;
         high = f.high;
       }
@@ -230,25 +217,21 @@ module _ {s : List ℕ} {at w point : ℕ} (f : NumberFound s at (Some w) point)
       pub decimal_no_places : NumberFound s (point + 1) None next → Stuck s at (Mode.digits (Use.width_f k) at 0) next
       decimal_no_places g l xs q = decimal_on l xs q ∙ number_stuck g (Use.places k (number at w)) (λ l xs q. refl) l xs q
 
-      pub decimal_read : {d : ℕ} → NumberFound s (point + 1) (Some d) next → (r : ℕ) → times k ≡ r → r < 1000 → (o o₁ o₂ : Option ℕ) → o₁ ≡ keep_first o (ranged (number at w) 1 64) → o₂ ≡ keep_first o₁ (ranged (number (point + 1) d) 0 9)
-          → ItemRead s at (Mode.digits (Use.width_f k) at 0) (repeat_numbers k) at o ((d * first_base + w) * kind_base + kind_f) r next o₂
+      pub decimal_read : {d : ℕ} → NumberFound s (point + 1) (Some d) next → (r : ℕ) → times k ≡ r → (o o₁ o₂ : Option ℕ) → o₁ ≡ keep_first o (ranged (number at w) 1 64) → o₂ ≡ keep_first o₁ (ranged (number (point + 1) d) 0 9)
+          → ItemRead s at (Mode.digits (Use.width_f k) at 0) (repeat_numbers k) at o (word.F w d) r next o₂
       unfolding numbers outside_after
-      decimal_read {d} g r rep few o o₁ o₂ x₁ x₂ =
+      decimal_read {d} g r rep o o₁ o₂ x₁ x₂ =
           let m = number at w in
           let n = number (point + 1) d in
           let item = Items.field k (Field.F m n) Items.none in
           record {
             item = item;
-            met = Met.field (Field.F w d);
             late = ranged m 1 64 ∷ ranged n 0 9 ∷ [];
-            first = subst (λ (j : ℕ). First (Items.field k (Field.F m n) Items.none) j (Met.field (Field.F w d)) Items.none) rep First.field;
+            first = λ t. subst (λ (j : ℕ). First (Items.field k (Field.F m n) Items.none) j (Met.field (Field.F w d)) Items.none) rep First.field;
             runs = λ l xs q. decimal_on l xs q ∙ number_ends g (Use.places k m) (Items.field k (Field.F m n) Items.none) (λ l xs q b. refl) l xs q;
-            means = λ t. met-F t w d (omega (arith, f.small));
-            kind = omega arith;
+            no_characters = refl;
             numbers_are = append-nil (repeat_numbers k ++ ranged m 1 64 ∷ ranged n 0 9 ∷ []);
             outside_is = x₂ ∙ ap (λ (z : Option ℕ). keep_first z (ranged n 0 9)) x₁;
-            low_word = omega (arith, f.small, g.small);
-            few = few;
             more = omega (arith, f.low, g.low);
             high = g.high;
           }

@@ -1,17 +1,19 @@
 -- The whole format: an opening bracket, its items up to the closing one, and nothing behind.
 -- Assumes nothing.
-use mathlib.Core.Path.{◌≡◌, refl, ◌∙◌}
+use mathlib.Core.Path.{◌≡◌, refl, ◌∙◌, subst}
 use mathlib.Core.Bool.{Bool, true, false, cond}
 use mathlib.Core.List.{List, [], ◌∷◌}
-use Prim.Native.Nat.{ℕ, ◌<◌, ◌≤◌}
+use Prim.Native.Nat.{ℕ, ◌-◌, ◌<◌, ◌≤◌}
 use native.Mathlib.Omega.{arith}
 use borrow.Author.Tests.{ne_eqb}
-use lib.ListN.{length, get_or}
+use lib.ListN.{length, get_or, take}
 use Rattle.std.specs.Prelude.{Some, None}
 use Rattle.format_items.specs.Items.{Items, join}
 use Rattle.format_items.specs.Ranges.{Ranged, outside, place, first_outside, numbers}
 use Rattle.format_grammar.specs.Reading.{Open, State, Reading, step, wanted, close, read_at, reading}
 use Rattle.format_grammar.proofs.ReadLaws.{read_step, read_dead, read_end, read_stuck}
+use Rattle.format_words.specs.declared.Entry.{Entry}
+use Rattle.format_words.specs.Held.{Holds}
 use Rattle.format_read.specs.Steps.{outside_after, Took}
 use Rattle.format_read.specs.Whole.{ItemsRead}
 use Rattle.format_read.specs.declared.Position.{Position}
@@ -47,7 +49,7 @@ module _ (s : List ℕ) where
     pub whole_wrong : {x : ℕ} → ((xs : Items) (q : Open) → read_at s 1 (State.within (wanted 1) 4 xs q) ≡ Reading.wrong x) → reading s ≡ Reading.wrong x
     whole_wrong w = whole_begun ∙ w Items.none Open.format
 
-    module _ {p : Position} {a t b u : List ℕ} (k : Took s 4 (wanted 1) close (record { at = 1; entries = 0; chars = 0; outside = None }) a t p b u) where
+    module _ {p : Position} {a b : List Entry} {t u : List ℕ} (k : Took s 4 (wanted 1) close (record { at = 1; entries = 0; chars = 0; outside = None }) a t p b u) where
       pub whole_more : p.at < length s → reading s ≡ Reading.wrong p.at
       unfolding join step
       whole_more g = whole_begun ∙ k.runs Items.none Open.format ∙ read_dead s p.at (State.end k.items) g refl
@@ -58,7 +60,7 @@ module _ (s : List ℕ) where
           record {
             read = k.items;
             is = whole_begun ∙ k.runs Items.none Open.format ∙ read_end s p.at (State.end k.items) g;
-            holds = k.holds;
+            holds = let all : p.entries - 0 ≡ p.entries = omega arith in subst (λ (n : ℕ). Holds u p.chars 4 (take n b) k.items) all k.holds;
             outside_is = k.outside_is ∙ outside_first (numbers k.items);
             few_entries = omega (arith, k.few_entries, k.high);
             few_chars = omega (arith, k.few_chars, k.high);

@@ -1,16 +1,18 @@
 -- What the readers of a format find, as steps of the reading of its text. Contracts of this crate cite it, no promise does.
 -- Assumes nothing.
-use Rattle.std.specs.Prelude.{◌≡◌, false, ◌&&◌, cond, List, [], ◌∷◌, ◌++◌, ℕ, ◌+◌, ◌-◌, ◌<◌, ◌≤◌, ltb, length, get_or, take, Option, Some, None, unwrap_or, Result, Ok, Err}
+use Rattle.std.specs.Prelude.{◌≡◌, false, ◌&&◌, cond, List, [], ◌∷◌, ◌++◌, ℕ, ◌+◌, ◌-◌, ◌<◌, ◌≤◌, ltb, length, get_or, take, drop, Option, Some, None, unwrap_or, Result, Ok, Err}
 use Rattle.number.specs.Digits.{is_digit}
 use Rattle.format_grammar.specs.Characters.{opening_bracket, apostrophe, quotation_mark}
-use Rattle.format_items.specs.Items.{Number, number, value_of, Repeat, absent, given, times, Items, join}
+use Rattle.format_items.specs.Items.{number, Repeat, absent, given, times, Items, join}
 use Rattle.format_items.specs.Ranges.{Ranged, ranged, outside, place, repeat_numbers, numbers}
-use Rattle.format_items.specs.Met.{Met}
-use Rattle.format_grammar.specs.Reading.{Use, Mode, Open, State, Reading, wanted, written, separated, used, read_at}
-use Rattle.format_words.specs.Words.{word, word_bound, kind_of, met_of, kind_literal}
+use Rattle.format_grammar.specs.Reading.{Use, Mode, Open, State, Reading, wanted, written, read_at}
+use Rattle.format_words.specs.Words.{met_of, reach}
+use Rattle.format_words.specs.declared.Word.{Word}
+use Rattle.format_words.specs.declared.Entry.{Entry}
 use Rattle.format_words.specs.Held.{First, Holds}
 use Rattle.format_read.specs.declared.Position.{Position}
 use Rattle.format_read.specs.declared.Ungrammatical.{Ungrammatical}
+use Rattle.format_read.specs.declared.Found.{Found}
 use Rattle.format_read.specs.declared.Single.{Single}
 use Rattle.format_read.specs.declared.Literal.{Literal}
 use Rattle.format_read.specs.declared.Head.{Head}
@@ -29,7 +31,6 @@ pub record NumberFound (s : List ℕ) (at : ℕ) (value : Option ℕ) (next : �
   pub stops : next < length s → (ltb next (at + 3) && is_digit (get_or s next 0)) ≡ false
   pub number_is : written at next (unwrap_or value 0) ≡ number_at at value
   pub empty : value ≡ None → next ≡ at
-  pub small : unwrap_or value 0 < 1000
   pub low : at ≤ next
   pub high : next ≤ length s
 
@@ -42,22 +43,23 @@ unfoldable pub outside_after : Option ℕ → List Ranged → Option ℕ
 outside_after o [] = o
 outside_after o (n ∷ ns) = outside_after (keep_first o n) ns
 
+-- a number from 1 to `high` that is there; none
+abbrev pub found : List ℕ → ℕ → ℕ → Option ℕ → Result Found Ungrammatical → Type 0
+found s at high o (Ok x) = NumberFound s at (Some x.value) x.next × (x.outside ≡ keep_first o (ranged (number at x.value) 1 high))
+found s at high o (Err e) = NumberFound s at None e.place
+
 -- ---- items that are neither groups nor literals
 
 -- from the mode m at a, an item was read up to `next`, which is not before `least`; its numbers but for ns, which come
 -- first, were looked at
-pub record ItemRead (s : List ℕ) (a : ℕ) (m : Mode) (ns : List Ranged) (least : ℕ) (o : Option ℕ) (w r next : ℕ) (o' : Option ℕ) : Type 0 where
+pub record ItemRead (s : List ℕ) (a : ℕ) (m : Mode) (ns : List Ranged) (least : ℕ) (o : Option ℕ) (w : Word) (r next : ℕ) (o' : Option ℕ) : Type 0 where
   pub item : Items
-  pub met : Met
   pub late : List Ranged
-  pub first : First item r met Items.none
+  pub first : (t : List ℕ) → First item r (met_of t w) Items.none
   pub runs : (l : ℕ) (xs : Items) (q : Open) → read_at s a (State.within m l xs q) ≡ read_at s next (State.within Mode.after l (join xs item) q)
-  pub means : (t : List ℕ) → met_of t w ≡ met
-  pub kind : kind_of w < kind_literal
+  pub no_characters : reach w ≡ 0
   pub numbers_are : numbers item ≡ ns ++ late
   pub outside_is : o' ≡ outside_after o late
-  pub low_word : w < word_bound
-  pub few : r < 1000
   pub more : least ≤ next
   pub high : next ≤ length s
 
@@ -73,16 +75,6 @@ item_read s a m ns least o (Err e) = Stuck s a m e.place
 -- an item that begins before `at` and ends with what a letter, whose use is u, asks for
 abbrev pub ended : List ℕ → ℕ → Use → Repeat → Option ℕ → Result Single Ungrammatical → Type 0
 ended s at u k o x = item_read s at (Mode.digits u at 0) (repeat_numbers k) at o x
-
--- one number, from 1 to `high`, ends an item of this kind whose repeat is k
-pub record Ends (u : Use) (k : Repeat) (kind high : ℕ) : Type 0 where
-  pub item : Number → Items
-  pub met : Number → Met
-  pub needed : (at l : ℕ) (xs : Items) (q : Open) (b : ℕ) → used u Repeat.absent at l xs q b ≡ State.dead
-  pub enough : (n : Number) (at l : ℕ) (xs : Items) (q : Open) (b : ℕ) → used u (Repeat.given n) at l xs q b ≡ separated at l (join xs (item n)) q b
-  pub first : (n : Number) → First (item n) (times k) (met n) Items.none
-  pub means : (t : List ℕ) (n : Number) → value_of n < 1024 → met_of t (word kind (value_of n) 0) ≡ met n
-  pub numbers_are : (n : Number) → numbers (item n) ≡ repeat_numbers k ++ ranged n 1 high ∷ []
 
 -- a byte that begins neither a group nor a literal
 pub record NoBracketOrMark (b : ℕ) : Type 0 where
@@ -110,18 +102,22 @@ literal_found s at m t c u (Err e) = Stuck s at (Mode.inside m []) e.place
 -- ---- items with their entries
 
 -- room for the entries of what can be read from a position on
-pub record Room (s : List ℕ) (p : Position) (a : List ℕ) : Type 0 where
+pub record Room (s : List ℕ) (p : Position) (a : List Entry) : Type 0 where
   pub within : p.at ≤ length s
   pub short : length s ≤ 1024
   pub few_entries : p.entries ≤ p.at
   pub few_chars : p.chars ≤ p.at
   pub entries_fit : length s ≤ length a
 
+-- the entries from n up to m
+abbrev pub between : ℕ → ℕ → List Entry → List Entry
+between n m es = take (m - n) (drop n es)
+
 -- from the mode m at p, items were read up to the state `to` at p'; their entries and characters were added to a and t
-pub record Took (s : List ℕ) (l : ℕ) (m : Mode) (to : ℕ → Items → Open → State) (p : Position) (a t : List ℕ) (p' : Position) (b u : List ℕ) : Type 0 where
+pub record Took (s : List ℕ) (l : ℕ) (m : Mode) (to : ℕ → Items → Open → State) (p : Position) (a : List Entry) (t : List ℕ) (p' : Position) (b : List Entry) (u : List ℕ) : Type 0 where
   pub items : Items
   pub runs : (xs : Items) (q : Open) → read_at s p.at (State.within m l xs q) ≡ read_at s p'.at (to l (join xs items) q)
-  pub holds : Holds b u p'.chars l p.entries items p'.entries
+  pub holds : Holds u p'.chars l (between p.entries p'.entries b) items
   pub entries_kept : take p.entries b ≡ take p.entries a
   pub chars_kept : take p.chars u ≡ take p.chars t
   pub outside_is : p'.outside ≡ outside_after p.outside (numbers items)
@@ -137,12 +133,12 @@ abbrev pub NoItem : List ℕ → ℕ → ℕ → ℕ → Type 0
 NoItem s l at x = (xs : Items) (q : Open) → read_at s at (State.within (wanted at) l xs q) ≡ Reading.wrong x
 
 -- items, or none
-abbrev pub took : List ℕ → ℕ → (ℕ → Items → Open → State) → Position → List ℕ → List ℕ → List ℕ → List ℕ → Result Position Ungrammatical → Type 0
+abbrev pub took : List ℕ → ℕ → (ℕ → Items → Open → State) → Position → List Entry → List ℕ → List Entry → List ℕ → Result Position Ungrammatical → Type 0
 took s l to p a t b u (Ok p') = Took s l (wanted p.at) to p a t p' b u
 took s l to p a t b u (Err e) = NoItem s l p.at e.place
 
 -- a group opens, with the repeat k of r
-pub record Opened (s : List ℕ) (l : ℕ) (p inside : Position) (r : ℕ) (a t b u : List ℕ) : Type 0 where
+pub record Opened (s : List ℕ) (l : ℕ) (p inside : Position) (r : ℕ) (a : List Entry) (t : List ℕ) (b : List Entry) (u : List ℕ) : Type 0 where
   pub k : Repeat
   pub repeats : times k ≡ r
   pub runs : (xs : Items) (q : Open) → read_at s p.at (State.within (wanted p.at) l xs q) ≡ read_at s inside.at (State.within (wanted inside.at) (l - 1) Items.none (Open.group xs k q))
@@ -152,12 +148,11 @@ pub record Opened (s : List ℕ) (l : ℕ) (p inside : Position) (r : ℕ) (a t 
   pub entries_are : inside.entries ≡ p.entries + 1
   pub chars_are : inside.chars ≡ p.chars
   pub deep : 0 < l
-  pub few : r < 1000
   pub more : p.at < inside.at
   pub high : inside.at ≤ length s
 
 -- an item, the opening of a group, or neither
-abbrev pub headed : List ℕ → ℕ → Position → List ℕ → List ℕ → List ℕ → List ℕ → Result Head Ungrammatical → Type 0
+abbrev pub headed : List ℕ → ℕ → Position → List Entry → List ℕ → List Entry → List ℕ → Result Head Ungrammatical → Type 0
 headed s l p a t b u (Ok (head.Whole p')) = Took s l (wanted p.at) (State.within Mode.after) p a t p' b u
 headed s l p a t b u (Ok (head.Group inside r)) = Opened s l p inside r a t b u
 headed s l p a t b u (Err e) = NoItem s l p.at e.place

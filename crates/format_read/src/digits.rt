@@ -10,13 +10,13 @@ pub fn read_number(text: &[u8], at: usize) -> Number
     ensures { NumberFound text.now at result.value result.next }
 {
     let end = text.len().min(at + 3);
-    let mut value = 0;
+    let mut value: u16 = 0;
     let mut next = at;
     for &b in &text[at..end] {
         if !b.is_ascii_digit() {
             break;
         }
-        value = value * 10 + u64::from(b - b'0');
+        value = value * 10 + u16::from(b - b'0');
         next += 1;
     }
     Number {

@@ -5,11 +5,12 @@ ghost use Rattle.format_read.specs.Whole.{format_read};
 use crate::items::read_items;
 use crate::{Position, Ungrammatical};
 use format_grammar::LEVELS;
+use format_words::Entry;
 
 // A format's text: its entries and characters, or the offset of the byte that cannot go on.
 pub fn read_format(
     text: &[u8],
-    entries: &mut [u64],
+    entries: &mut [Entry],
     chars: &mut [u8],
 ) -> Result<Position, Ungrammatical>
     requires { (length text.now ≤ 1024) × (length text.now ≤ length entries.old) × (length text.now ≤ length chars.old) }

@@ -5,12 +5,11 @@ ghost use Rattle.format_grammar.specs.Reading.{Mode, State};
 ghost use Rattle.format_read.specs.Steps.{NumberFound, NoBracketOrMark, Room, took, headed};
 
 use crate::digits::read_number;
-use crate::entry::put_entry;
 use crate::literals::read_literal;
 use crate::range::outside_of;
 use crate::singles::read_single;
 use crate::{Head, Number, Position, Ungrammatical};
-use format_words::{FIRST_BASE, KIND_BASE, KIND_LITERAL};
+use format_words::{Entry, Word};
 
 // An apostrophe or a quotation mark.
 fn is_mark(b: u8) -> bool
@@ -24,7 +23,7 @@ fn read_literal_item(
     text: &[u8],
     p: Position,
     m: u8,
-    entries: &mut [u64],
+    entries: &mut [Entry],
     chars: &mut [u8],
 ) -> Result<Position, Ungrammatical>
     requires room { Room text.now p entries.old × (length text.now ≤ length chars.old) }
@@ -34,12 +33,11 @@ fn read_literal_item(
     let c = p.chars;
     let literal = read_literal(text, p.at + 1, m, chars, c)?;
     let end = literal.end;
-    put_entry(
-        entries,
-        p.entries,
-        (((end - c) as u64) * FIRST_BASE + (c as u64)) * KIND_BASE + KIND_LITERAL,
-        1,
-    );
+    let word = Word::Literal {
+        start: c as u16,
+        len: (end - c) as u16,
+    };
+    entries[p.entries] = Entry::Item { word, repeat: 1 };
     Ok(Position {
         chars: end,
         ..p.with_entry(literal.next, p.outside)
@@ -51,7 +49,7 @@ fn read_single_item(
     text: &[u8],
     p: Position,
     m: Number,
-    entries: &mut [u64],
+    entries: &mut [Entry],
 ) -> Result<Position, Ungrammatical>
     requires room { Room text.now p entries.old }
     requires number_found { NumberFound text.now p.at m.value m.next }
@@ -59,7 +57,10 @@ fn read_single_item(
     ensures { (l : ℕ) (t : List ℕ) → took text.now l (State.within Mode.after) p entries.old t entries.new t result }
 {
     let single = read_single(text, p, m)?;
-    put_entry(entries, p.entries, single.word, single.repeat);
+    entries[p.entries] = Entry::Item {
+        word: single.word,
+        repeat: single.repeat,
+    };
     Ok(p.with_entry(single.next, single.outside))
 }
 
@@ -68,7 +69,7 @@ pub fn read_head(
     text: &[u8],
     p: Position,
     level: usize,
-    entries: &mut [u64],
+    entries: &mut [Entry],
     chars: &mut [u8],
 ) -> Result<Head, Ungrammatical>
     requires { Room text.now p entries.old × (length text.now ≤ length chars.old) }

@@ -1,35 +1,21 @@
 // An item, and items in brackets: the two readers call each other, the levels left falling at each group, and the text left
 // at each item.
-ghost use Rattle.std.specs.Prelude.{◌≡◌, ◌+◌, ◌-◌, ◌*◌, ◌<◌, ◌≤◌, length, set};
+ghost use Rattle.std.specs.Prelude.{◌≤◌, length};
 ghost use Rattle.format_grammar.specs.Reading.{Mode, State, close};
-ghost use Rattle.format_words.specs.Words.{entry, word, kind_group};
 ghost use Rattle.format_read.specs.Steps.{Room, took};
 
-use crate::entry::put_entry;
 use crate::heads::read_head;
 use crate::{Head, Position, Ungrammatical};
-use format_words::{KIND_BASE, KIND_GROUP};
+use format_words::Entry;
 
-// The entry n of a group whose items' entries follow it up to `end`.
-fn put_group(entries: &mut [u64], n: usize, end: usize, r: u64)
-    requires { (n < end) × (end ≤ 1024) × (end ≤ length entries.old) × (r < 1000) }
-    ensures { entries.new ≡ set entries.old n (entry (word kind_group (end - (n + 1)) 0) r) }
-{
-    put_entry(
-        entries,
-        n,
-        ((end - (n + 1)) as u64) * KIND_BASE + KIND_GROUP,
-        r,
-    );
-}
-
-// One item, in which `level` levels of groups may open.
+// One item, in which `level` levels of groups may open. A group's entry comes before those of its items, and is put when they
+// have been counted.
 #[cycle(read_item_read_items)]
 fn read_item(
     text: &[u8],
     p: Position,
     level: usize,
-    entries: &mut [u64],
+    entries: &mut [Entry],
     chars: &mut [u8],
 ) -> Result<Position, Ungrammatical>
     requires { Room text.now p entries.old × (length text.now ≤ length chars.old) }
@@ -39,7 +25,10 @@ fn read_item(
         Head::Whole(after) => Ok(after),
         Head::Group { inside, repeat } => {
             let after = read_items(text, inside, level - 1, entries, chars)?;
-            put_group(entries, p.entries, after.entries, repeat);
+            entries[p.entries] = Entry::Group {
+                entries: (after.entries - inside.entries) as u16,
+                repeat,
+            };
             Ok(after)
         }
     }
@@ -51,7 +40,7 @@ pub fn read_items(
     text: &[u8],
     start: Position,
     level: usize,
-    entries: &mut [u64],
+    entries: &mut [Entry],
     chars: &mut [u8],
 ) -> Result<Position, Ungrammatical>
     requires { Room text.now start entries.old × (length text.now ≤ length chars.old) }

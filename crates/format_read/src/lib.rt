@@ -1,11 +1,10 @@
-// A format's text read into entries, a number for each item, and the characters of its literals.
+// A format's text read into entries and the characters of its literals.
 #![tactic(auto)]
 
 ghost use Rattle.std.specs.Prelude.{◌≡◌, ◌+◌, ◌<◌};
 ghost use Rattle.format_items.specs.declared.FormatRefusal.TheVariants.{Grammar};
 
 mod digits;
-mod entry;
 pub mod format;
 mod heads;
 mod items;
@@ -14,6 +13,7 @@ mod range;
 mod singles;
 
 use format_items::FormatRefusal;
+use format_words::Word;
 
 // Where a reader stands: the offset of the next byte, how many entries and characters there are, and the offset of the first
 // number out of range so far.
@@ -68,16 +68,24 @@ impl From<Ungrammatical> for FormatRefusal {
 // A number of at most three digits: its value, if there is a digit, and the offset after it.
 #[derive(Clone, Copy, PartialEq, Eq, Debug)]
 struct Number {
-    value: Option<u64>,
+    value: Option<u16>,
     next: usize,
+}
+
+// A number that is there: its value, the offset after it, and that of the first number out of range.
+#[derive(Clone, Copy, PartialEq, Eq, Debug)]
+struct Found {
+    value: u16,
+    next: usize,
+    outside: Option<usize>,
 }
 
 // An item that is neither a group nor a literal: its word and repeat, the offset after it, and that of the first number out
 // of range.
-#[derive(Clone, Copy, PartialEq, Eq, Debug)]
+#[derive(Clone, Copy)]
 struct Single {
-    word: u64,
-    repeat: u64,
+    word: Word,
+    repeat: u16,
     next: usize,
     outside: Option<usize>,
 }
@@ -93,5 +101,5 @@ struct Literal {
 #[derive(Clone, Copy, PartialEq, Eq, Debug)]
 enum Head {
     Whole(Position),
-    Group { inside: Position, repeat: u64 },
+    Group { inside: Position, repeat: u16 },
 }

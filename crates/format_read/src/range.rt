@@ -10,9 +10,9 @@ use format_items::LARGEST_COUNT;
 pub fn first_outside(
     outside: Option<usize>,
     at: usize,
-    value: u64,
-    low: u64,
-    high: u64,
+    value: u16,
+    low: u16,
+    high: u16,
 ) -> Option<usize>
     ensures { result ≡ keep_first outside (ranged (number at value) low high) }
 {
@@ -24,7 +24,7 @@ pub fn first_outside(
 }
 
 // The first number out of range, after the repeat or count at `at` too, if there is one.
-pub fn outside_of(outside: Option<usize>, at: usize, value: Option<u64>) -> Option<usize>
+pub fn outside_of(outside: Option<usize>, at: usize, value: Option<u16>) -> Option<usize>
     ensures { result ≡ outside_after outside (repeat_numbers (number_at at value)) }
 {
     match value {

@@ -2,57 +2,65 @@
 ghost use Rattle.std.specs.Prelude.{◌≡◌, [], ◌+◌, ◌<◌, ◌≤◌, length, get_or};
 ghost use Rattle.format_items.specs.Items.{Repeat, times};
 ghost use Rattle.format_grammar.specs.Reading.{Use, wanted};
-ghost use Rattle.format_words.specs.Words.{kind_literal};
-ghost use Rattle.format_read.specs.Steps.{NumberFound, Ends, ended, item_read, NoBracketOrMark};
+ghost use Rattle.format_read.specs.Steps.{NumberFound, found, ended, item_read, NoBracketOrMark};
 
 use crate::digits::read_number;
 use crate::range::{first_outside, outside_of};
-use crate::{Number, Position, Single, Ungrammatical};
+use crate::{Found, Number, Position, Single, Ungrammatical};
 use format_items::{LARGEST_COUNT, LARGEST_PLACES, LARGEST_WIDTH};
-use format_words::{
-    FIRST_BASE, KIND_A, KIND_AW, KIND_BASE, KIND_F, KIND_I, KIND_L, KIND_SLASH, KIND_T, KIND_X,
-};
+use format_words::Word;
+
+impl Found {
+    // The item whose only number it is.
+    fn single(self, word: Word, repeat: u16) -> Single
+        ensures { result ≡ record { word = word; repeat = repeat; next = self.next; outside = self.outside } }
+    {
+        Single {
+            word,
+            repeat,
+            next: self.next,
+            outside: self.outside,
+        }
+    }
+}
 
 // What I, L and T go on with: one number, from 1 to `high`.
 fn read_one(
     text: &[u8],
     at: usize,
-    kind: u64,
-    high: u64,
-    repeat: u64,
+    high: u16,
     outside: Option<usize>,
-) -> Result<Single, Ungrammatical>
-    requires { (at ≤ length text.now) × (length text.now ≤ 1024) × (kind < kind_literal) × (repeat < 1000) }
-    ensures { (u : Use) (k : Repeat) → times k ≡ repeat → Ends u k kind high → ended text.now at u k outside result }
+) -> Result<Found, Ungrammatical>
+    requires { at ≤ length text.now }
+    ensures { found text.now at high outside result }
 {
     let m = read_number(text, at);
     let value = m.value.ok_or(Ungrammatical { place: m.next })?;
-    Ok(Single {
-        word: value * KIND_BASE + kind,
-        repeat,
+    Ok(Found {
+        value,
         next: m.next,
         outside: first_outside(outside, at, value, 1, high),
     })
 }
 
 // What A goes on with: a width, or nothing.
-fn read_a(text: &[u8], at: usize, repeat: u64, outside: Option<usize>) -> Single
-    requires { (at ≤ length text.now) × (length text.now ≤ 1024) × (repeat < 1000) }
+fn read_a(text: &[u8], at: usize, repeat: u16, outside: Option<usize>) -> Single
+    requires { at ≤ length text.now }
     ensures { (k : Repeat) → times k ≡ repeat → ended text.now at (Use.width_a k) k outside (Ok result) }
 {
     let m = read_number(text, at);
     match m.value {
         None => Single {
-            word: KIND_A,
+            word: Word::A,
             repeat,
             next: m.next,
             outside,
         },
-        Some(value) => Single {
-            word: value * KIND_BASE + KIND_AW,
+        Some(width) => Single {
+            word: Word::Aw { width },
             repeat,
             next: m.next,
-            outside: first_outside(outside, at, value, 1, LARGEST_WIDTH),
+            outside: first_outside(outside, at, width, 1, LARGEST_WIDTH),
         },
     }
 }
@@ -61,10 +69,10 @@ fn read_a(text: &[u8], at: usize, repeat: u64, outside: Option<usize>) -> Single
 fn read_f(
     text: &[u8],
     at: usize,
-    repeat: u64,
+    repeat: u16,
     outside: Option<usize>,
 ) -> Result<Single, Ungrammatical>
-    requires { (at ≤ length text.now) × (length text.now ≤ 1024) × (repeat < 1000) }
+    requires { at ≤ length text.now }
     ensures { (k : Repeat) → times k ≡ repeat → ended text.now at (Use.width_f k) k outside result }
 {
     let m = read_number(text, at);
@@ -78,7 +86,7 @@ fn read_f(
     let places = n.value.ok_or(Ungrammatical { place: n.next })?;
     let o = first_outside(outside, at, width, 1, LARGEST_WIDTH);
     Ok(Single {
-        word: (places * FIRST_BASE + width) * KIND_BASE + KIND_F,
+        word: Word::F { width, places },
         repeat,
         next: n.next,
         outside: first_outside(o, start, places, 0, LARGEST_PLACES),
@@ -88,34 +96,46 @@ fn read_f(
 // The item, neither a group nor a literal, that begins at p with the digits m.
 pub fn read_single(text: &[u8], p: Position, m: Number) -> Result<Single, Ungrammatical>
     requires number_found { NumberFound text.now p.at m.value m.next }
-    requires at_in_bounds { (m.next < length text.now) × (length text.now ≤ 1024) × NoBracketOrMark (get_or text.now m.next 0) }
+    requires at_in_bounds { (m.next < length text.now) × NoBracketOrMark (get_or text.now m.next 0) }
     ensures { item_read text.now p.at (wanted p.at) [] (p.at + 1) p.outside result }
 {
     let at = m.next;
     let repeat = m.value.unwrap_or(1);
     let outside = outside_of(p.outside, p.at, m.value);
     match text[at] {
-        b'I' => read_one(text, at + 1, KIND_I, LARGEST_WIDTH, repeat, outside),
+        b'I' => {
+            let width = read_one(text, at + 1, LARGEST_WIDTH, outside)?;
+            Ok(width.single(Word::I { width: width.value }, repeat))
+        }
         b'F' => read_f(text, at + 1, repeat, outside),
-        b'L' => read_one(text, at + 1, KIND_L, LARGEST_WIDTH, repeat, outside),
+        b'L' => {
+            let width = read_one(text, at + 1, LARGEST_WIDTH, outside)?;
+            Ok(width.single(Word::L { width: width.value }, repeat))
+        }
         b'A' => Ok(read_a(text, at + 1, repeat, outside)),
         b'T' => {
             if m.value.is_some() {
                 return Err(Ungrammatical { place: at });
             }
-            read_one(text, at + 1, KIND_T, LARGEST_COUNT, 1, outside)
+            let column = read_one(text, at + 1, LARGEST_COUNT, outside)?;
+            Ok(column.single(
+                Word::T {
+                    column: column.value,
+                },
+                1,
+            ))
         }
         b'X' => {
             let count = m.value.ok_or(Ungrammatical { place: at })?;
             Ok(Single {
-                word: count * KIND_BASE + KIND_X,
+                word: Word::X { count },
                 repeat: 1,
                 next: at + 1,
                 outside,
             })
         }
         b'/' => Ok(Single {
-            word: KIND_SLASH,
+            word: Word::Slash,
             repeat,
             next: at + 1,
             outside,

@@ -1,19 +1,17 @@
 -- The loop over the sizes of items.
 -- Assumes nothing.
-use mathlib.Core.Path.{◌≡◌, ap, ◌∙◌}
-use mathlib.Core.List.{List}
-use Prim.Native.Nat.{ℕ, zero, suc, ◌+◌, ◌-◌, ◌*◌, ◌<◌, ◌≤◌}
+use Rattle.std.proofs.Common.{◌≡◌, sym, ap, ◌∙◌, List, ◌∷◌, ℕ, zero, suc, ◌+◌, ◌-◌, ◌*◌, ◌≤◌, arith, length, take, drop}
 use native.Mathlib.Decide.{dec_le}
-use native.Mathlib.Nat.{mul-le-mul, zero-mul, suc-mul}
-use native.Mathlib.Omega.{arith}
-use lib.ListN.{get_or}
+use native.Mathlib.Nat.{zero-mul, suc-mul}
 use Rattle.format_items.specs.Items.{Items}
 use Rattle.format_items.specs.Size.{size}
-use Rattle.format_words.specs.Words.{kind_of, word_of, repeat_of, kind_group}
+use Rattle.format_words.specs.declared.Word.{Word}
+use Rattle.format_words.specs.declared.Entry.{Entry}
+use Rattle.format_words.specs.declared.Entry.TheVariants as entry
 use Rattle.format_words.specs.Held.{Holds, SomeItems}
 use Rattle.format_run.specs.Sizes.{capped}
 use Rattle.format_run.proofs.FirstLaws.{size_group, first_adds}
-use Rattle.format_run.proofs.Views.{end_of, as_group, as_other, none_left}
+use Rattle.format_run.proofs.Views.{as_item, as_group, none_left}
 
 -- ---- sizes as far as they matter
 
@@ -28,57 +26,49 @@ capped_times r x y = go (dec_le 4097 x)
     go (yes h) = let e : capped x ≡ 4097 = omega arith in rw e (over r x y h)
     go (no h) = let e : capped x ≡ x = omega arith in rw e
 
--- a repeat below 1,024 times a capped size
-pub product : (e x : ℕ) → x ≤ 4097 → repeat_of e * x ≤ 1024 * 4097
-product e x h = let l : repeat_of e ≤ 1024 = omega arith in mul-le-mul l h
+-- ---- the loop: the items that `rest` holds are left, the others are in the total
 
--- ---- the loop: the items from i on are left, the others are in the total
-
-pub record Left (a t : List ℕ) (c l to total i : ℕ) (xs : Items) : Type 0 where
+pub record Left (t : List ℕ) (c l total : ℕ) (rest : List Entry) (xs : Items) : Type 0 where
   pub zs : Items
-  pub holds : Holds a t c l i zs to
+  pub holds : Holds t c l rest zs
   pub sum : capped (size xs) ≡ capped (total + size zs)
 
-pub record Added (a : List ℕ) (l from to total i : ℕ) : Type 0 where
+pub record Added (es : List Entry) (l total : ℕ) (rest : List Entry) : Type 0 where
   pub low : total ≤ 4097
-  pub all : (t : List ℕ) (c : ℕ) (xs : Items) → Holds a t c l from xs to → Left a t c l to total i xs
+  pub all : (t : List ℕ) (c : ℕ) (xs : Items) → Holds t c l es xs → Left t c l total rest xs
 
-pub added_none : {a : List ℕ} {l from to : ℕ} → Added a l from to 0 from
+pub added_none : {es : List Entry} {l : ℕ} → Added es l 0 es
 added_none = record { low = omega arith; all = λ t c xs h. record { zs = xs; holds = h; sum = omega arith } }
 
-module _ {a : List ℕ} {l from to total i : ℕ} (w : Added a l from to total i) where
-  pub held_at : SomeItems a l from to → SomeItems a l i to
-  held_at h =
+module _ {es : List Entry} {l total : ℕ} {rest : List Entry} (w : Added es l total rest) where
+  pub held_left : SomeItems es l → SomeItems rest l
+  held_left h =
       let g = w.all h.t h.c h.items h.holds in
       record { t = h.t; c = h.c; items = g.zs; holds = g.holds }
 
-  pub added_all : to ≤ i → (t : List ℕ) (c : ℕ) (xs : Items) → Holds a t c l from xs to → total ≡ capped (size xs)
+  pub added_all : length rest ≡ 0 → (t : List ℕ) (c : ℕ) (xs : Items) → Holds t c l es xs → total ≡ capped (size xs)
   unfolding size
   added_all e t c xs h =
       let g = w.all t c xs h in
       let z : size g.zs ≡ 0 = rw (none_left g.holds e) in
       omega (arith, w.low, g.sum)
 
-  module _ (b : i < to) where
-    pub added_group : (inside sum : ℕ) → kind_of (word_of (get_or a i 0)) ≡ kind_group
-        → ((t : List ℕ) (c : ℕ) (ys : Items) → Holds a t c (l - 1) (i + 1) ys (end_of a i) → inside ≡ capped (size ys))
-        → sum ≡ capped (total + repeat_of (get_or a i 0) * inside) → Added a l from to sum (end_of a i)
-    added_group inside sum e call s = record { low = omega arith; all = λ t c xs h. step t c xs (w.all t c xs h) }
-      where
-        step : (t : List ℕ) (c : ℕ) (xs : Items) → Left a t c l to total i xs → Left a t c l to sum (end_of a i) xs
-        step t c xs g =
-            let v = as_group g.holds b e in
-            let z : size g.zs ≡ repeat_of (get_or a i 0) * size v.inside + size v.next =
-            ap size v.is ∙ rw v.repeats (size_group v.r v.inside v.next) in
-            let p : sum ≡ capped (total + repeat_of (get_or a i 0) * size v.inside) =
-            s ∙ rw (call t c v.inside v.one) (capped_times (repeat_of (get_or a i 0)) (size v.inside) total) in
-            record { zs = v.next; holds = v.two; sum = omega (arith, g.sum) }
+  pub added_item : {word : Word} {r : ℕ} {tail : List Entry} (sum : ℕ) → rest ≡ entry.Item word r ∷ tail → sum ≡ capped (total + r) → Added es l sum tail
+  added_item {word} {r} {tail} sum e s = record { low = omega arith; all = λ t c xs h. step t c xs (w.all t c xs h) }
+    where
+      step : (t : List ℕ) (c : ℕ) (xs : Items) → Left t c l total rest xs → Left t c l sum tail xs
+      step t c xs g =
+          let v = as_item (rw e at g.holds) in
+          record { zs = v.next; holds = v.rest; sum = omega (arith, g.sum, (first_adds v.first).size_is) }
 
-    pub added_other : (sum : ℕ) → (kind_of (word_of (get_or a i 0)) ≡ kind_group → ⊥)
-        → sum ≡ capped (total + repeat_of (get_or a i 0)) → Added a l from to sum (i + 1)
-    added_other sum e s = record { low = omega arith; all = λ t c xs h. step t c xs (w.all t c xs h) }
-      where
-        step : (t : List ℕ) (c : ℕ) (xs : Items) → Left a t c l to total i xs → Left a t c l to sum (i + 1) xs
-        step t c xs g =
-            let v = as_other g.holds b e in
-            record { zs = v.next; holds = v.two; sum = omega (arith, g.sum, (first_adds v.first).size_is) }
+  pub added_group : {n r : ℕ} {tail : List Entry} (inside sum : ℕ) → rest ≡ entry.Group n r ∷ tail
+      → ((t : List ℕ) (c : ℕ) (ys : Items) → Holds t c (l - 1) (take n tail) ys → inside ≡ capped (size ys))
+      → sum ≡ capped (total + r * inside) → Added es l sum (drop n tail)
+  added_group {n} {r} {tail} inside sum e call s = record { low = omega arith; all = λ t c xs h. step t c xs (w.all t c xs h) }
+    where
+      step : (t : List ℕ) (c : ℕ) (xs : Items) → Left t c l total rest xs → Left t c l sum (drop n tail) xs
+      step t c xs g =
+          let v = as_group (rw e at g.holds) in
+          let z : size g.zs ≡ r * size v.inside + size v.next = ap size v.is ∙ size_group v.r v.inside v.next ∙ ap (λ (q : ℕ). q * size v.inside + size v.next) (sym v.repeats) in
+          let p : sum ≡ capped (total + r * size v.inside) = s ∙ rw (call t c v.inside v.one) (capped_times r (size v.inside) total) in
+          record { zs = v.next; holds = v.two; sum = omega (arith, g.sum) }

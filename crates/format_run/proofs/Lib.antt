@@ -2,6 +2,5 @@ pub mod FirstLaws
 pub mod Views
 pub mod Adding
 pub mod Repeating
-pub mod RunLaws
 pub mod Backs
 pub mod Unrolling

@@ -1,77 +1,58 @@
--- What the entry at which items begin says of them.
+-- What the first of the entries that hold items says of them.
 -- Assumes nothing.
-use mathlib.Core.Path.{◌≡◌, refl}
-use mathlib.Core.List.{List}
-use Prim.Native.Nat.{ℕ, ◌+◌, ◌-◌, ◌<◌, ◌≤◌}
-use native.Mathlib.Omega.{arith}
-use lib.ListN.{length, get_or}
+use Rattle.std.proofs.Common.{◌≡◌, refl, sym, List, ◌∷◌, ℕ, ◌+◌, ◌-◌, ◌≤◌, arith, length, take, drop, length-append}
+use lib.Seq.{take_at, drop_at}
 use Rattle.format_items.specs.Items.{Repeat, times, Items}
-use Rattle.format_items.specs.Met.{Met}
-use Rattle.format_words.specs.Words.{kind_of, first_of, word_of, repeat_of, met_of, RunWord, kind_group}
-use Rattle.format_words.specs.Held.{First, Holds}
-use Rattle.format_words.proofs.HeldLaws.{holds_le}
+use Rattle.format_words.specs.Words.{met_of, RunWord}
+use Rattle.format_words.specs.declared.Word.{Word}
+use Rattle.format_words.specs.declared.Entry.{Entry}
+use Rattle.format_words.specs.declared.Entry.TheVariants as entry
+use Rattle.format_words.specs.Held.{First, Holds, SomeItems}
 
--- where a group's entries end
-abbrev pub end_of : List ℕ → ℕ → ℕ
-end_of a n = n + 1 + first_of (word_of (get_or a n 0))
+-- an item that is no group
+pub record Item (t : List ℕ) (c l : ℕ) (w : Word) (r : ℕ) (es : List Entry) (xs : Items) : Type 0 where
+  pub next : Items
+  pub first : First xs r (met_of t w) next
+  pub sound : RunWord c w
+  pub rest : Holds t c l es next
 
--- a group, where the kind is a group's
-pub record Group (a t : List ℕ) (c l n : ℕ) (xs : Items) (m : ℕ) : Type 0 where
+-- a group, which n entries hold
+pub record Group (t : List ℕ) (c l n k : ℕ) (es : List Entry) (xs : Items) : Type 0 where
   pub r : Repeat
   pub inside : Items
   pub next : Items
   pub is : xs ≡ Items.group r inside next
-  pub repeats : repeat_of (get_or a n 0) ≡ times r
+  pub repeats : k ≡ times r
   pub deep : 1 ≤ l
-  pub one : Holds a t c (l - 1) (n + 1) inside (end_of a n)
-  pub two : Holds a t c l (end_of a n) next m
-  pub before : end_of a n ≤ m
+  pub few : n ≤ length es
+  pub one : Holds t c (l - 1) (take n es) inside
+  pub two : Holds t c l (drop n es) next
 
-module _ {a t : List ℕ} {c : ℕ} where
-  level_less : {l n m : ℕ} {xs : Items} → Holds a t c l n xs m → Holds a t c (l + 1 - 1) n xs m
-  level_less {l} h = let e : l + 1 - 1 ≡ l = omega arith in rw e h
+module _ {t : List ℕ} {c : ℕ} where
+  pub as_item : {l r : ℕ} {w : Word} {es : List Entry} {xs : Items} → Holds t c l (entry.Item w r ∷ es) xs → Item t c l w r es xs
+  as_item (Holds.item {next} f s h) = record { next = next; first = f; sound = s; rest = h }
 
-  pub as_group : {l n m : ℕ} {xs : Items}
-      → Holds a t c l n xs m → n < m → kind_of (word_of (get_or a n 0)) ≡ kind_group → Group a t c l n xs m
-  as_group Holds.none h e = absurd (omega arith)
-  as_group (Holds.single f i s k) h e = absurd (omega (arith, s.kind))
-  as_group (Holds.group {r} {inside} {next} i g h k) b e =
+  pub as_group : {l n k : ℕ} {es : List Entry} {xs : Items} → Holds t c l (entry.Group n k ∷ es) xs → Group t c l n k es xs
+  as_group (Holds.group {l} {r} {one} {two} {inside} {next} n k e h g) =
+      let a : l + 1 - 1 ≡ l = omega arith in
       record {
         r = r;
         inside = inside;
         next = next;
         is = refl;
-        repeats = g.repeats;
+        repeats = k;
         deep = omega arith;
-        one = level_less (rw g.inside at h);
-        two = rw g.inside at k;
-        before = rw g.inside at (holds_le k);
+        few = rw e (omega (arith, length-append one two));
+        one = rw (a, e, take_at one two _ (sym n)) h;
+        two = rw (e, drop_at one two _ (sym n)) g;
       }
 
--- another item, where it is not
-pub record Other (a t : List ℕ) (c l n : ℕ) (xs : Items) (m : ℕ) : Type 0 where
-  pub k : Met
-  pub next : Items
-  pub first : First xs (repeat_of (get_or a n 0)) k next
-  pub means : met_of t (word_of (get_or a n 0)) ≡ k
-  pub sound : RunWord c (word_of (get_or a n 0))
-  pub two : Holds a t c l (n + 1) next m
+  -- no items where no entry is left
+  pub none_left : {l : ℕ} {es : List Entry} {xs : Items} → Holds t c l es xs → length es ≡ 0 → xs ≡ Items.none
+  none_left Holds.none e = refl
+  none_left (Holds.item f s h) e = absurd (omega arith)
+  none_left (Holds.group n k r h g) e = absurd (omega arith)
 
-module _ {a t : List ℕ} {c : ℕ} where
-  pub as_other : {l n m : ℕ} {xs : Items}
-      → Holds a t c l n xs m → n < m → (kind_of (word_of (get_or a n 0)) ≡ kind_group → ⊥) → Other a t c l n xs m
-  as_other Holds.none h e = absurd (omega arith)
-  as_other (Holds.single {k} {next} f i s u) h e =
-      record { k = k; next = next; first = rw (← s.repeats) at f; means = s.is; sound = (s.kind, s.reaches); two = u }
-  as_other (Holds.group i g h k) b e = absurd (e g.kind)
-
-  pub in-entries : {l n m : ℕ} {xs : Items} → Holds a t c l n xs m → n < m → n < length a
-  in-entries Holds.none h = absurd (omega arith)
-  in-entries (Holds.single f i s u) h = i
-  in-entries (Holds.group i g h k) b = i
-
-  -- no items where none is left
-  pub none_left : {l n m : ℕ} {xs : Items} → Holds a t c l n xs m → m ≤ n → xs ≡ Items.none
-  none_left Holds.none h = refl
-  none_left (Holds.single f i s u) h = absurd (omega (arith, holds_le u))
-  none_left (Holds.group i g h k) b = absurd (omega (arith, holds_le h, holds_le k))
+-- the items of a group, where some items begin with it
+pub inside_of : {l n k : ℕ} {es : List Entry} → SomeItems (entry.Group n k ∷ es) l → SomeItems (take n es) (l - 1)
+inside_of h = let g = as_group h.holds in record { t = h.t; c = h.c; items = g.inside; holds = g.one }

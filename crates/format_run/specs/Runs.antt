@@ -1,39 +1,25 @@
 -- A run: the items met, as words one after another.
 -- Assumes nothing.
-use Rattle.std.specs.Prelude.{◌≡◌, List, ◌++◌, map, ℕ, ◌+◌, ◌-◌, ◌*◌, ◌<◌, ◌≤◌, length, take, drop}
+use Rattle.std.specs.Prelude.{◌≡◌, List, map, ℕ, ◌≤◌}
 use Rattle.format_items.specs.Items.{Items}
 use Rattle.format_items.specs.Ranges.{numbers, AllWithin}
 use Rattle.format_items.specs.Size.{size}
-use Rattle.format_items.specs.Met.{Met, repeat}
+use Rattle.format_items.specs.Met.{Met}
 use Rattle.format_words.specs.Words.{met_of, RunWords}
 use Rattle.format_words.specs.Held.{Holds}
+use Rattle.format_words.specs.declared.Word.{Word}
+use Rattle.format_words.specs.declared.Entry.{Entry}
 
--- the words from n up to m can be had r times instead of once
-pub record Repeatable (run : List ℕ) (n m r : ℕ) : Type 0 where
-  pub ordered : n ≤ m
-  pub inside : m ≤ length run
-  pub some : 1 ≤ r
-  pub few : r < 1024
-  pub room : n + r * (m - n) ≤ length run
-
--- in out they are there r times, up to `end`
-pub record Repeated (run : List ℕ) (n m r : ℕ) (out : List ℕ) (end : ℕ) : Type 0 where
-  pub ends : end ≡ n + r * (m - n)
-  pub is : take end out ≡ take n run ++ repeat r (take (m - n) (drop n run))
-
--- the entries from `from` up to `to` hold items whose numbers are in range, and there is room for them in the run from n on
-pub record SomeItemsFit (a : List ℕ) (level from to : ℕ) (run : List ℕ) (n : ℕ) : Type 0 where
+-- the entries hold items whose numbers are in range, and so many words have room for them
+pub record SomeItemsFit (es : List Entry) (level room : ℕ) : Type 0 where
   pub t : List ℕ
   pub c : ℕ
   pub items : Items
-  pub holds : Holds a t c level from items to
+  pub holds : Holds t c level es items
   pub ranges : AllWithin (numbers items)
-  pub room : n + size items ≤ length run
+  pub fits : size items ≤ room
 
--- the first m words of out are the first n of run, and words that stand for the items met ks
-pub record Ran (t : List ℕ) (c : ℕ) (run : List ℕ) (n : ℕ) (ks : List Met) (out : List ℕ) (m : ℕ) : Type 0 where
-  pub words : List ℕ
+-- the words stand for the items met ks; the characters of literals are among the first c of t
+pub record AreMet (t : List ℕ) (c : ℕ) (words : List Word) (ks : List Met) : Type 0 where
   pub sound : RunWords c words
-  pub count : m ≡ n + length ks
-  pub is : take m out ≡ take n run ++ words
   pub mean : map (met_of t) words ≡ ks

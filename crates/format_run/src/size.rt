@@ -5,38 +5,30 @@ ghost use Rattle.format_items.specs.Size.{size};
 ghost use Rattle.format_words.specs.Held.{Holds, SomeItems};
 ghost use Rattle.format_run.specs.Sizes.{capped};
 
-use format_words::{FIRST_BASE, KIND_BASE, KIND_GROUP, REPEAT_BASE};
+use format_words::Entry;
 
 // What any size over the largest counts as.
-const TOO_LARGE: u64 = 4097;
+const TOO_LARGE: usize = 4097;
 
-// A size as far as it matters.
-fn capped(n: u64) -> u64
-    ensures { result ≡ capped n }
-{
-    if n < TOO_LARGE { n } else { TOO_LARGE }
-}
-
-// The size of the items that the entries from `from` up to `to` hold, by recursion over nested groups.
-pub fn size_of(entries: &[u64], from: usize, to: usize, level: usize) -> u64
-    requires { SomeItems entries.now level from to }
-    ensures sized { (t : List ℕ) (c : ℕ) (xs : Items) → Holds entries.now t c level from xs to → result ≡ capped (size xs) }
+// The size of the items that the entries hold, as far as it matters, by recursion over nested groups.
+pub fn size_of(entries: &[Entry], level: usize) -> usize
+    requires { SomeItems entries.now level }
+    ensures sized { (t : List ℕ) (c : ℕ) (xs : Items) → Holds t c level entries.now xs → result ≡ capped (size xs) }
     ensures bounded { result ≤ 4097 }
 {
-    let mut total: u64 = 0;
-    let mut i = from;
-    while i < to {
-        let e = entries[i];
-        let w = e / REPEAT_BASE;
-        let r = e % REPEAT_BASE;
-        if w % KIND_BASE == KIND_GROUP {
-            let mid = i + 1 + (w / KIND_BASE % FIRST_BASE) as usize;
-            let inside = size_of(entries, i + 1, mid, level - 1);
-            total = capped(total + r * inside);
-            i = mid;
-        } else {
-            total = capped(total + r);
-            i += 1;
+    let mut total: usize = 0;
+    let mut rest = entries;
+    while let Some((entry, tail)) = rest.split_first() {
+        match *entry {
+            Entry::Item { word: _, repeat } => {
+                total = (total + usize::from(repeat)).min(TOO_LARGE);
+                rest = tail;
+            }
+            Entry::Group { entries, repeat } => {
+                let (inside, after) = tail.split_at(usize::from(entries));
+                total = (total + usize::from(repeat) * size_of(inside, level - 1)).min(TOO_LARGE);
+                rest = after;
+            }
         }
     }
     total

@@ -1,23 +1,15 @@
--- Entries that hold items: after one another, and kept when others are written.
+-- Entries that hold items: after one another, and with further characters.
 -- Assumes nothing.
-use mathlib.Core.Path.{◌≡◌, sym, ap, ◌∙◌, subst}
-use mathlib.Core.List.{List}
-use Prim.Native.Nat.{ℕ, ◌+◌, ◌<◌, ◌≤◌}
-use native.Mathlib.Omega.{arith}
-use borrow.Author.Tests.{eq-eqb}
-use lib.ListN.{length, get_or, take, drop}
+use Rattle.std.proofs.Common.{◌≡◌, refl, sym, ap, ◌∙◌, subst, List, ◌++◌, append_assoc, ℕ, ◌+◌, ◌≤◌, arith, take, drop}
 use lib.Seq.{take-take}
-use Rattle.buffer.proofs.Splicing.{drop_take}
-use Rattle.format_items.specs.Items.{times, Items, join}
+use Rattle.std.proofs.lemmas.List.{drop-take}
+use Rattle.format_items.specs.Items.{Items, join}
 use Rattle.format_items.specs.Met.{Met}
-use Rattle.format_words.specs.Words.{kind_of, first_of, second_of, word_of, met_of, reach, kind_literal, kind_group}
-use Rattle.format_words.proofs.WordKinds.{is-I, is-F, is-L, is-A, is-Aw, is-X, is__t, is_slash, is_literal, Kinds, kinds}
-use Rattle.format_words.specs.Held.{First, Single, GroupEntry, Holds}
-
-pub holds_le : {a t : List ℕ} {c l n m : ℕ} {xs : Items} → Holds a t c l n xs m → n ≤ m
-holds_le Holds.none = omega arith
-holds_le (Holds.single f i s h) = omega (arith, holds_le h)
-holds_le (Holds.group i g h k) = omega (arith, holds_le h, holds_le k)
+use Rattle.format_words.specs.Words.{met_of, RunWord}
+use Rattle.format_words.specs.declared.Word.{Word}
+use Rattle.format_words.specs.declared.Word.TheVariants as word
+use Rattle.format_words.specs.declared.Entry.{Entry}
+use Rattle.format_words.specs.Held.{First, Holds}
 
 -- ---- one after the other
 
@@ -29,52 +21,35 @@ first_join ys First.T = First.T
 first_join ys First.slash = First.slash
 first_join ys First.literal = First.literal
 
-pub holds_join : {a t : List ℕ} {c l n m p : ℕ} {xs ys : Items} → Holds a t c l n xs m → Holds a t c l m ys p → Holds a t c l n (join xs ys) p
+pub holds_join : {t : List ℕ} {c l : ℕ} {es fs : List Entry} {xs ys : Items} → Holds t c l es xs → Holds t c l fs ys → Holds t c l (es ++ fs) (join xs ys)
 unfolding join
 holds_join Holds.none k = k
-holds_join {ys} (Holds.single f i s h) k = Holds.single (first_join ys f) i s (holds_join h k)
-holds_join (Holds.group i g h j) k = Holds.group i g h (holds_join j k)
+holds_join {ys} (Holds.item f s h) k = Holds.item (first_join ys f) s (holds_join h k)
+holds_join {fs} (Holds.group {one} {two} n r e h j) k = Holds.group n r (ap (λ l. l ++ fs) e ∙ append_assoc one two fs) h (holds_join j k)
 
 -- ---- kept
 
--- the same characters up to c
-pub slice_kept : (a b c : ℕ) (t u : List ℕ) → a + b ≤ c → take c u ≡ take c t → take b (drop a u) ≡ take b (drop a t)
+-- a part of the first c, which stay
+pub slice_kept : {A : Type 0} (a b c : ℕ) (t u : List A) → a + b ≤ c → take c u ≡ take c t → take b (drop a u) ≡ take b (drop a t)
 slice_kept a b c t u h e =
-    sym (drop_take a b u)
+    sym (drop-take a b u)
     ∙ ap (drop a) (sym (take-take (a + b) c u h) ∙ ap (take (a + b)) e ∙ take-take (a + b) c t h)
-    ∙ drop_take a b t
+    ∙ drop-take a b t
 
-pub met_kept : (w c : ℕ) (t u : List ℕ) → kind_of w < kind_group → reach w ≤ c → take c u ≡ take c t → met_of u w ≡ met_of t w
-unfolding reach
-met_kept w c t u low h e = go (kinds w)
-  where
-    go : Kinds w → met_of u w ≡ met_of t w
-    go (Kinds.I k) = is-I u w k ∙ sym (is-I t w k)
-    go (Kinds.F k) = is-F u w k ∙ sym (is-F t w k)
-    go (Kinds.L k) = is-L u w k ∙ sym (is-L t w k)
-    go (Kinds.A k) = is-A u w k ∙ sym (is-A t w k)
-    go (Kinds.Aw k) = is-Aw u w k ∙ sym (is-Aw t w k)
-    go (Kinds.X k) = is-X u w k ∙ sym (is-X t w k)
-    go (Kinds.T k) = is__t u w k ∙ sym (is__t t w k)
-    go (Kinds.slash k) = is_slash u w k ∙ sym (is_slash t w k)
-    go (Kinds.literal k) =
-        let z : kind_of w ≡ kind_literal = omega arith in
-        let s = slice_kept (first_of w) (second_of w) c t u (rw (eq-eqb (kind_of w) kind_literal z) at h) e in
-        is_literal u w k ∙ ap Met.literal s ∙ sym (is_literal t w k)
+pub met_kept : (w : Word) (c : ℕ) (t u : List ℕ) → RunWord c w → take c u ≡ take c t → met_of u w ≡ met_of t w
+met_kept (word.I w) c t u h e = refl
+met_kept (word.F w d) c t u h e = refl
+met_kept (word.L w) c t u h e = refl
+met_kept word.A c t u h e = refl
+met_kept (word.Aw w) c t u h e = refl
+met_kept (word.X n) c t u h e = refl
+met_kept (word.T n) c t u h e = refl
+met_kept word.Slash c t u h e = refl
+met_kept (word.Literal a n) c t u h e = ap Met.literal (slice_kept a n c t u h e)
 
-pub single_kept : {t u : List ℕ} {c d e r : ℕ} {k : Met} → Single t c e r k → take c u ≡ take c t → c ≤ d → Single u d e r k
-single_kept {t} {u} {c} {d} {e} s q h =
-    record { kind = s.kind; is = met_kept (word_of e) c t u s.kind s.reaches q ∙ s.is; repeats = s.repeats; reaches = omega (arith, s.reaches) }
-
--- other entries and further characters may change
-pub holds_kept : {a b t u : List ℕ} {c d l n m : ℕ} {xs : Items} → Holds a t c l n xs m → length a ≡ length b → ((i : ℕ) → n ≤ i → i < m → get_or b i 0 ≡ get_or a i 0)
-    → take c u ≡ take c t → c ≤ d → Holds b u d l n xs m
-holds_kept Holds.none len same q h = Holds.none
-holds_kept {a} {b} {u} {d} {n} {m} (Holds.single {r} {k} f i s rest) len same q h =
-    let e = same n (omega arith) (omega (arith, holds_le rest)) in
-    Holds.single {n = n} f (omega arith) (subst (λ (x : ℕ). Single u d x r k) (sym e) (single_kept s q h)) (holds_kept rest len (λ j lo hi. same j (omega arith) hi) q h)
-holds_kept {a} {b} {n} {m} (Holds.group {mid} {r} i g inside rest) len same q h =
-    let e = same n (omega arith) (omega (arith, holds_le inside, holds_le rest)) in
-    Holds.group {n = n} (omega arith) (subst (λ (x : ℕ). GroupEntry x (times r) n mid) (sym e) g)
-    (holds_kept inside len (λ j lo hi. same j (omega arith) (omega (arith, holds_le rest))) q h)
-    (holds_kept rest len (λ j lo hi. same j (omega (arith, holds_le inside)) hi) q h)
+-- further characters may change
+pub holds_kept : {t u : List ℕ} {c d l : ℕ} {es : List Entry} {xs : Items} → Holds t c l es xs → take c u ≡ take c t → c ≤ d → Holds u d l es xs
+holds_kept Holds.none q h = Holds.none
+holds_kept {t} {u} {c} (Holds.item {r} {w} {xs} {next} f s rest) q h =
+    Holds.item (subst (λ (x : Met). First xs r x next) (sym (met_kept w c t u s q)) f) (omega arith) (holds_kept rest q h)
+holds_kept (Holds.group n r e inside rest) q h = Holds.group n r e (holds_kept inside q h) (holds_kept rest q h)

@@ -1,3 +1,1 @@
-pub mod WordLaws
-pub mod WordKinds
 pub mod HeldLaws

@@ -1,9 +1,12 @@
 -- The items that entries hold.
 -- Assumes nothing.
-use Rattle.std.specs.Prelude.{◌≡◌, List, ℕ, ◌+◌, ◌<◌, ◌≤◌, length, get_or}
+use Rattle.std.specs.Prelude.{◌≡◌, List, [], ◌∷◌, ◌++◌, ℕ, ◌+◌, length}
 use Rattle.format_items.specs.Items.{Number, value_of, Repeat, times, Field, Items}
 use Rattle.format_items.specs.Met.{Met, field_values}
-use Rattle.format_words.specs.Words.{kind_of, first_of, word_of, repeat_of, kind_group, met_of, reach}
+use Rattle.format_words.specs.Words.{met_of, RunWord}
+use Rattle.format_words.specs.declared.Word.{Word}
+use Rattle.format_words.specs.declared.Entry.{Entry}
+use Rattle.format_words.specs.declared.Entry.TheVariants as entry
 
 -- the items begin with an item that is no group, met so many times, and others follow
 pub data First : Items → ℕ → Met → Items → Type 0 where
@@ -13,29 +16,17 @@ pub data First : Items → ℕ → Met → Items → Type 0 where
   slash : {r : Repeat} {xs : Items} → First (Items.slash r xs) (times r) Met.slash xs
   literal : {cs : List ℕ} {xs : Items} → First (Items.literal cs xs) 1 (Met.literal cs) xs
 
--- the entry e holds the item k, met r times, its characters being among the first c of t
-pub record Single (t : List ℕ) (c e r : ℕ) (k : Met) : Type 0 where
-  pub kind : kind_of (word_of e) < kind_group
-  pub is : met_of t (word_of e) ≡ k
-  pub repeats : repeat_of e ≡ r
-  pub reaches : reach (word_of e) ≤ c
-
--- the entry e at n is that of a group, whose r is as given, and whose items' entries end before m
-pub record GroupEntry (e r n m : ℕ) : Type 0 where
-  pub kind : kind_of (word_of e) ≡ kind_group
-  pub inside : m ≡ n + 1 + first_of (word_of e)
-  pub repeats : repeat_of e ≡ r
-
--- the entries a from n up to m hold the items, in which l levels of groups may open; the characters are the first c of t
-pub data Holds (a t : List ℕ) (c : ℕ) : ℕ → ℕ → Items → ℕ → Type 0 where
-  none : {l n : ℕ} → Holds a t c l n Items.none n
-  single : {l n m r : ℕ} {k : Met} {xs next : Items} → First xs r k next → n < length a → Single t c (get_or a n 0) r k → Holds a t c l (n + 1) next m → Holds a t c l n xs m
-  group : {l n mid m : ℕ} {r : Repeat} {inside next : Items} → n < length a → GroupEntry (get_or a n 0) (times r) n mid
-      → Holds a t c l (n + 1) inside mid → Holds a t c (l + 1) mid next m → Holds a t c (l + 1) n (Items.group r inside next) m
+-- the entries hold the items, in which l levels of groups may open; the characters of literals are among the first c of t
+pub data Holds (t : List ℕ) (c : ℕ) : ℕ → List Entry → Items → Type 0 where
+  none : {l : ℕ} → Holds t c l [] Items.none
+  item : {l r : ℕ} {w : Word} {rest : List Entry} {xs next : Items}
+      → First xs r (met_of t w) next → RunWord c w → Holds t c l rest next → Holds t c l (entry.Item w r ∷ rest) xs
+  group : {l n k : ℕ} {r : Repeat} {one two rest : List Entry} {inside next : Items} → n ≡ length one → k ≡ times r → rest ≡ one ++ two
+      → Holds t c l one inside → Holds t c (l + 1) two next → Holds t c (l + 1) (entry.Group n k ∷ rest) (Items.group r inside next)
 
 -- the entries hold some items
-pub record SomeItems (a : List ℕ) (l n m : ℕ) : Type 0 where
+pub record SomeItems (es : List Entry) (l : ℕ) : Type 0 where
   pub t : List ℕ
   pub c : ℕ
   pub items : Items
-  pub holds : Holds a t c l n items m
+  pub holds : Holds t c l es items

@@ -1,41 +1,25 @@
-// Items and items met as numbers: the layout of words and entries.
+// Items met as words, and the items of a format as entries.
 #![tactic(auto)]
 
-ghost use Rattle.std.specs.Prelude.{◌≡◌};
-ghost use Rattle.format_words.specs.Words.{second_of};
+pub mod run;
 
-// A word is (second * FIRST_BASE + first) * KIND_BASE + kind, for a kind and two numbers.
-pub const KIND_BASE: u64 = 16;
+// An item met. The numbers of a literal are the offset and the count of its characters, which are kept beside the words.
+#[derive(Clone, Copy)]
+pub enum Word {
+    I { width: u16 },
+    F { width: u16, places: u16 },
+    L { width: u16 },
+    A,
+    Aw { width: u16 },
+    X { count: u16 },
+    T { column: u16 },
+    Slash,
+    Literal { start: u16, len: u16 },
+}
 
-pub const FIRST_BASE: u64 = 1024;
-
-// An entry is word * REPEAT_BASE + repeat.
-pub const REPEAT_BASE: u64 = 1024;
-
-// The kinds of words.
-pub const KIND_I: u64 = 0;
-
-pub const KIND_F: u64 = 1;
-
-pub const KIND_L: u64 = 2;
-
-pub const KIND_A: u64 = 3;
-
-pub const KIND_AW: u64 = 4;
-
-pub const KIND_X: u64 = 5;
-
-pub const KIND_T: u64 = 6;
-
-pub const KIND_SLASH: u64 = 7;
-
-pub const KIND_LITERAL: u64 = 8;
-
-pub const KIND_GROUP: u64 = 9;
-
-// A word's second number: d in Fw.d, a literal's length.
-pub fn second_of(word: u64) -> usize
-    ensures { result ≡ second_of word }
-{
-    (word / KIND_BASE / FIRST_BASE) as usize
+// An item with its repeat; or a group with its repeat, whose items are held by so many of the entries after it.
+#[derive(Clone, Copy)]
+pub enum Entry {
+    Item { word: Word, repeat: u16 },
+    Group { entries: u16, repeat: u16 },
 }

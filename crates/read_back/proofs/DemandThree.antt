@@ -12,7 +12,7 @@ use Rattle.list_elements.specs.Elements.{kind_of, values}
 use Rattle.list_elements.specs.Limits.{most_elements, within_limits, texts_length}
 use Rattle.list_elements.specs.Contents.{content_kind, content_of, texts_of}
 use Rattle.list_elements.specs.declared.Value.{Value}
-use Rattle.list_elements.proofs.ApartLaws.{check_good, values_most}
+use Rattle.list_elements.proofs.GoodLaws.{check_good, values_most}
 use Rattle.list_elements.proofs.ContentLaws.{texts_length_lem}
 use Rattle.list_elements.proofs.Promises.{gives_contents}
 use Rattle.sheet_walk.specs.Steps.{Placement}

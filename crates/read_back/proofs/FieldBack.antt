@@ -29,7 +29,7 @@ use Rattle.list_elements.specs.declared.Decimal.{Decimal}
 use Rattle.list_elements.specs.declared.Text.{Text}
 use Rattle.list_elements.specs.declared.Value.{Value}
 use Rattle.list_elements.specs.declared.Value.TheVariants as value
-use Rattle.list_elements.proofs.ApartLaws.{within_integer, within_text}
+use Rattle.list_elements.proofs.WithinLaws.{within_integer, within_text}
 use Rattle.sheet_walk.specs.Steps.{suits, field_width}
 use Rattle.write_passes.specs.Placed.{integer_of, decimal_of, field_characters, field_starred, field_too_large}
 use Rattle.buffer.proofs.Tests.{no_way}

@@ -12,7 +12,7 @@ use Rattle.list_elements.specs.Elements.{kind_of, zero_value}
 use Rattle.list_elements.specs.Limits.{within_limits}
 use Rattle.list_elements.specs.Contents.{content_kind}
 use Rattle.list_elements.specs.declared.Value.{Value}
-use Rattle.list_elements.proofs.ApartLaws.{good_at, check_good}
+use Rattle.list_elements.proofs.GoodLaws.{good_at, check_good}
 use Rattle.sheet_walk.specs.Steps.{element, Placement, suits, field_width}
 use Rattle.sheet_walk.specs.Walk.{Trace}
 use Rattle.sheet_walk.specs.Columns.{In, CoveredTwice, covered_twice}

@@ -15,7 +15,8 @@ use Rattle.list_elements.specs.Elements.{Kind, kind_of, values}
 use Rattle.list_elements.specs.Limits.{ListCheck, good, within_limits, wanted_within, may_be_wanted, wanted_check, texts_length, longest_text}
 use Rattle.list_elements.specs.declared.Value.{Value}
 use Rattle.list_elements.specs.declared.Value.TheVariants as value
-use Rattle.list_elements.proofs.ApartLaws.{within_text, good_at, check_good}
+use Rattle.list_elements.proofs.GoodLaws.{good_at, check_good}
+use Rattle.list_elements.proofs.WithinLaws.{within_text}
 use Rattle.list_elements.proofs.RowSix.{good_back}
 use Rattle.sheet_walk.specs.Walk.{Trace, sheet, walk}
 use Rattle.sheet_walk.specs.Promises.{EndsWith}

@@ -1,6 +1,6 @@
 pub mod GivenLaws
 pub mod GatheredLaws
 pub mod OrderLaws
-pub mod TakeLaws
+pub mod FindLaws
 pub mod PassLaws
 pub mod GiveLaws

@@ -1,89 +1,94 @@
--- What the pass of reading and the list made after it are given, as words and numbers. (Nothing here need be believed: the public
--- call's contract does not speak of it.)
+-- What the pass of reading finds, and the list made of it. (Nothing here need be believed: the public call's contract does not
+-- speak of it.)
 -- Assumes nothing.
-use Rattle.std.specs.Prelude.{◌≡◌, Bool, cond, List, map, ℕ, ◌+◌, ◌<◌, ◌≤◌, ℤ, pos, length, take, drop, get_or, Option, Some, None}
+use Rattle.std.specs.Prelude.{◌≡◌, Bool, cond, List, ℕ, ◌+◌, ◌<◌, ◌≤◌, pos, length, get_or, Option, Some, None, Result, Ok, Err}
+use Rattle.buffer.specs.Characters.{all_printable}
+use Rattle.field_written.specs.Numeral.{Numeric}
+use Rattle.field_read.specs.Read.{read_field}
+use Rattle.field_read.specs.LogicalRead.{logical_read}
 use Rattle.field_read.specs.TextRead.{text_read}
 use Rattle.field_read.specs.declared.Number.{Number}
-use Rattle.list_elements.specs.Elements.{Kind, integer, decimal, logical, text}
+use Rattle.format_words.specs.declared.Word.{Word}
+use Rattle.format_words.specs.declared.Word.TheVariants as word
+use Rattle.list_elements.specs.Elements.{Kind, text_length, zero_value, value_of, text_bytes}
 use Rattle.list_elements.specs.Limits.{most_elements, texts_length}
-use Rattle.list_elements.specs.Apart.{kind_from}
 use Rattle.list_elements.specs.Contents as content
-use Rattle.list_elements.specs.Contents.{Content}
-use Rattle.sheet_walk.specs.Steps.{What, element, literal}
-use Rattle.sheet_walk.specs.Walk.{walk}
-use Rattle.sheet_walk.specs.Turns.{WordCovers, Loaded, sheet_of}
-use Rattle.sheet_walk.specs.declared.Records.{Records}
-use Rattle.sheet_walk.specs.declared.Ending.{Ending}
-use Rattle.sheet_walk.specs.declared.Ending.TheVariants as ending
-use Rattle.read_passes.specs.Given.{Given, gives, nothing, field_gives, Gathered, accepted, refused, kind_at, gathered}
-use Rattle.read_passes.specs.declared.Taken.{Taken}
-use Rattle.read_passes.specs.declared.Taken.TheVariants.{Element, Nothing, Literal}
+use Rattle.list_elements.specs.Contents.{Content, content_kind}
+use Rattle.list_elements.specs.declared.Value.{Value}
+use Rattle.list_elements.specs.declared.Value.TheVariants as value
+use Rattle.list_elements.specs.declared.Element.{Element}
+use Rattle.sheet_walk.specs.Given.{kinds_of}
+use Rattle.sheet_walk.specs.declared.Refusal.{Refusal}
+use Rattle.read_passes.specs.Given.{Given, gives, nothing, Gathered, accepted, refused, kind_at}
 
--- ---- one element, as numbers
+-- ---- one field
 
--- what an element of a kind holds, by its amount and its detail: n; units and places; 1 for true and 0 for false; of a text the
--- width of its field, and where the field stands in the records
-abbrev pub HeldAs : List ℕ → Kind → ℤ → ℕ → Content → Type 0
-HeldAs records integer a d c = c ≡ content.integer a
-HeldAs records decimal a d c = c ≡ content.decimal a d
-HeldAs records logical a d c = (b : Bool) × (a ≡ cond b (pos 1) (pos 0)) × (c ≡ content.logical b)
-HeldAs records (text m) a d c =
-    (w : ℕ) × (a ≡ pos w) × (w < 256) × (d + w ≤ length records) × (c ≡ content.text (text_read m (take w (drop d records))))
+abbrev pub integer_found : Option Number → Option Value
+integer_found (Some n) = Some (value.Integer n.units)
+integer_found None = None
 
-pub record SomeHeldAs (records : List ℕ) (k : Kind) (a : ℤ) (d : ℕ) : Type 0 where
-  pub c : Content
-  pub held : HeldAs records k a d c
+abbrev pub decimal_found : Option Number → Option Value
+decimal_found (Some n) = Some (value.Decimal (record { units = n.units; places = n.places }))
+decimal_found None = None
 
--- ---- one placement
+abbrev pub logical_found : Option Bool → Option Value
+logical_found (Some b) = Some (value.Logical b)
+logical_found None = None
 
--- numbers and logicals read
-abbrev pub number_taken : Option Number → Taken
-number_taken (Some n) = Element n.units n.places
-number_taken None = Nothing
+-- of a text, where its field stands in the records
+abbrev pub text_found : List ℕ → ℕ → Option Value
+text_found t at = cond (all_printable t) (Some (value.Text (record { start = at; len = length t }))) None
 
-abbrev pub logical_taken : Option Bool → Taken
-logical_taken (Some b) = Element (cond b (pos 1) (pos 0)) 0
-logical_taken None = Nothing
+-- under the word of a field; of an item that is none, as under A
+abbrev pub found_in : Word → List ℕ → ℕ → Option Value
+found_in (word.I w) t at = integer_found (read_field Numeric.I t)
+found_in (word.F w d) t at = decimal_found (read_field (Numeric.F d) t)
+found_in (word.L w) t at = logical_found (logical_read t)
+found_in word.A t at = text_found t at
+found_in (word.Aw w) t at = text_found t at
+found_in (word.X n) t at = text_found t at
+found_in (word.T n) t at = text_found t at
+found_in word.Slash t at = text_found t at
+found_in (word.Literal a n) t at = text_found t at
+
+-- ---- what it holds
+
+-- a text of m characters, read from its field
+abbrev pub content_found : List ℕ → ℕ → Value → Content
+content_found records m (value.Integer n) = content.integer n
+content_found records m (value.Decimal d) = content.decimal d.units d.places
+content_found records m (value.Logical b) = content.logical b
+content_found records m (value.Text t) = content.text (text_read m (text_bytes records t))
+
+-- the field of a text lies in the records
+abbrev pub field_inside : List ℕ → Value → Type 0
+field_inside records (value.Integer n) = Unit
+field_inside records (value.Decimal d) = Unit
+field_inside records (value.Logical b) = Unit
+field_inside records (value.Text t) = t.start + t.len ≤ length records
+
+-- the content c was found, an element of the kind k being wanted
+pub record FoundAs (records : List ℕ) (k : Kind) (v : Value) (c : Content) : Type 0 where
+  pub is : content_found records (text_length k) v ≡ c
+  pub of_kind : content_kind c ≡ k
+  pub inside : field_inside records v
 
 -- what a field gives, as the code answers it
-abbrev pub GivenAs : List ℕ → Kind → Given → Taken → Type 0
-GivenAs records k (gives c) r = (a : ℤ) × (d : ℕ) × (r ≡ Element a d) × HeldAs records k a d c
-GivenAs records k nothing r = r ≡ Nothing
-
--- what a placement gives, its columns being the w bytes of the records from `at` on
-abbrev pub TakenAs : List ℕ → List Kind → ℕ → ℕ → What → Taken → Type 0
-TakenAs records kinds at w (element i f) r = GivenAs records (kind_at kinds i) (field_gives f (kind_at kinds i) (take w (drop at records))) r
-TakenAs records kinds at w (literal cs) r = r ≡ Literal
-
--- the item of a word covers w columns, for some list
-pub record SomeCovers (word w : ℕ) : Type 0 where
-  pub t : List ℕ
-  pub kinds : List Kind
-  pub i : ℕ
-  pub covers : WordCovers t kinds word i w
+abbrev pub GivenAs : List ℕ → Kind → Given → Option Value → Type 0
+GivenAs records k (gives c) r = (v : Value) × (r ≡ Some v) × FoundAs records k v c
+GivenAs records k nothing r = r ≡ None
 
 -- ---- the whole walk
 
--- a loaded run, for some characters
-pub record SomeLoaded (words kinds : List ℕ) (rs : Records) : Type 0 where
-  pub t : List ℕ
-  pub loaded : Loaded t words kinds rs
-
--- the first elements hold cs, by their amounts and details
-abbrev pub HeldSoFar : List ℕ → List Kind → List ℤ → List ℕ → List Content → Type 0
-HeldSoFar records kinds amounts details cs =
-    (j : ℕ) → j < length cs → HeldAs records (kind_at kinds j) (get_or amounts j (pos 0)) (get_or details j 0) (get_or cs j (content.integer (pos 0)))
+-- the first elements hold cs
+abbrev pub FoundSoFar : List ℕ → List Kind → List Element → List Content → Type 0
+FoundSoFar records kinds found cs =
+    (j : ℕ) → j < length cs → FoundAs records (kind_at kinds j) (value_of (get_or found j (record { value = zero_value }))) (get_or cs j (content.integer (pos 0)))
 
 -- how reading along a walk ends, as the code answers it
-abbrev pub ending_of : Gathered → Ending
-ending_of (accepted cs n) = ending.Accepted n
-ending_of (refused why) = ending.Refused why
-
--- what the pass answers, and leaves in the two lists
-pub record Read (t words : List ℕ) (back : ℕ) (kinds : List ℕ) (rs : Records) (records : List ℕ) (r : Ending) (amounts : List ℤ) (details : List ℕ) : Type 0 where
-  pub ends : r ≡ ending_of (gathered rs.width (map kind_from kinds) records (walk (sheet_of t words back kinds rs)))
-  pub held : (cs : List Content) (n : ℕ) → gathered rs.width (map kind_from kinds) records (walk (sheet_of t words back kinds rs)) ≡ accepted cs n
-      → HeldSoFar records (map kind_from kinds) amounts details cs
+abbrev pub ending_of : Gathered → Result ℕ Refusal
+ending_of (accepted cs n) = Ok n
+ending_of (refused why) = Err why
 
 -- ---- the list
 
@@ -92,14 +97,13 @@ abbrev pub Contents : Type 0
 Contents = List Content
 
 -- all elements hold cs, and an area of `room` bytes has room for their texts
-pub record Held (records kinds : List ℕ) (amounts : List ℤ) (details : List ℕ) (room : ℕ) (cs : List Content) : Type 0 where
-  pub many : length cs ≡ length kinds
-  pub few : length kinds ≤ most_elements
-  pub amounts_long : length kinds ≤ length amounts
-  pub details_long : length kinds ≤ length details
-  pub fits : texts_length (map kind_from kinds) ≤ room
-  pub each : HeldSoFar records (map kind_from kinds) amounts details cs
+pub record Found (records : List ℕ) (wanted found : List Element) (room : ℕ) (cs : List Content) : Type 0 where
+  pub many : length cs ≡ length wanted
+  pub few : length wanted ≤ most_elements
+  pub long : length wanted ≤ length found
+  pub fits : texts_length (kinds_of wanted) ≤ room
+  pub each : FoundSoFar records (kinds_of wanted) found cs
 
-pub record SomeHeld (records kinds : List ℕ) (amounts : List ℤ) (details : List ℕ) (room : ℕ) : Type 0 where
+pub record SomeFound (records : List ℕ) (wanted found : List Element) (room : ℕ) : Type 0 where
   pub cs : List Content
-  pub held : Held records kinds amounts details room cs
+  pub held : Found records wanted found room cs

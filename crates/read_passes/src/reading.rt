@@ -1,75 +1,42 @@
-// The pass of reading: what the fields give, and how the walk ends. Nothing but the two lists of numbers is stored.
-ghost use Rattle.std.specs.Prelude.{List, ℕ, ◌*◌, ◌≤◌, length};
-ghost use Rattle.sheet_walk.specs.Turns.{Loaded};
-ghost use Rattle.read_passes.specs.Passes.{SomeLoaded, Read};
+// The pass of reading: what the fields give, and how the walk ends.
+ghost use Rattle.std.specs.Prelude.{◌≡◌, List, ℕ, ◌*◌, ◌≤◌, length};
+ghost use Rattle.list_elements.specs.Contents.{Content};
+ghost use Rattle.sheet_walk.specs.Walk.{walk};
+ghost use Rattle.sheet_walk.specs.Given.{kinds_of, given_sheet, Roomy};
+ghost use Rattle.read_passes.specs.Given.{accepted, gathered};
+ghost use Rattle.read_passes.specs.Passes.{ending_of, FoundSoFar};
 
-use crate::Taken;
-use crate::fields::take_field;
-use sheet_walk::items::has_field;
-use sheet_walk::turns::{advance, cover_at, first_cursor};
-use sheet_walk::{Cover, Ending, Records, Refusal, Turn};
+use crate::fields::find;
+use format_words::Word;
+use format_words::run::Run;
+use list_elements::Element;
+use sheet_walk::walk::Walk;
+use sheet_walk::{Records, Refusal};
 
-// The amounts and details of the elements, at least as many as there are kinds.
+// The records reached, or the first refusal on the walk; what the fields hold is put in order.
 pub fn read_pass(
-    words: &[u64],
-    back: usize,
-    kinds: &[u64],
-    rs: Records,
-    records: &[u8],
-    amounts: &mut [i64],
-    details: &mut [usize],
-) -> Ending
-    requires { SomeLoaded words.now kinds.now rs × (rs.count * rs.width ≤ length records.now) × (length kinds.now ≤ length amounts.old) × (length kinds.now ≤ length details.old) }
-    ensures { (t : List ℕ) → Loaded t words.now kinds.now rs → Read t words.now back kinds.now rs records.now result amounts.new details.new }
+    run: Run<'_>,
+    wanted: &[Element],
+    records: Records,
+    bytes: &[u8],
+    found: &mut [Element],
+) -> Result<usize, Refusal>
+    requires roomy { Roomy records }
+    requires room { records.count * records.width ≤ length bytes.now }
+    requires long { length wanted.now ≤ length found.old }
+    ensures ends { result ≡ ending_of (gathered records.width (kinds_of wanted.now) bytes.now (walk (given_sheet run.entry wanted.now records))) }
+    ensures found { (cs : List Content) (n : ℕ) → gathered records.width (kinds_of wanted.now) bytes.now (walk (given_sheet run.entry wanted.now records)) ≡ accepted cs n → FoundSoFar bytes.now (kinds_of wanted.now) found.new cs }
 {
-    let part = has_field(words, back);
-    let mut c = first_cursor();
-    loop {
-        let cover = cover_at(words, back, part, kinds, rs, c);
-        match cover {
-            Cover::Columns { at, width, next } => {
-                let index = c.index;
-                let s = c.state;
-                let place = s.taken;
-                match take_field(words[index], records, at, width) {
-                    Taken::Literal => {
-                        c = next;
-                    }
-                    Taken::Nothing => {
-                        return Ending::Refused(Refusal::FieldText { place });
-                    }
-                    Taken::Element { amount, detail } => {
-                        amounts[place] = amount;
-                        details[place] = detail;
-                        c = next;
-                    }
-                }
-            }
-            Cover::Moves(next) => {
-                c = next;
-            }
-            Cover::Nothing => {
-                let turn = advance(words, back, part, kinds, rs, c);
-                match turn {
-                    Turn::Goes(next) => {
-                        c = next;
-                    }
-                    // Never: `cover_at` answers every turn that covers.
-                    Turn::Covers {
-                        at: _,
-                        width: _,
-                        next: _,
-                    } => {
-                        return Ending::Refused(Refusal::NoRecord);
-                    }
-                    Turn::Refused(refusal) => {
-                        return Ending::Refused(refusal);
-                    }
-                    Turn::Ends { records: reached } => {
-                        return Ending::Accepted { records: reached };
-                    }
-                }
-            }
+    let mut walk = Walk::new(run, wanted, records);
+    while let Some(cover) = walk.next()? {
+        if let Word::Literal { start: _, len: _ } = cover.word {
+            continue;
         }
+        let part = &bytes[cover.at..cover.at + cover.width];
+        let Some(value) = find(cover.word, part, cover.at) else {
+            return Err(Refusal::FieldText { place: cover.place });
+        };
+        found[cover.place] = Element { value };
     }
+    Ok(walk.reached())
 }

@@ -4,10 +4,9 @@ use crate::records::bytes_of;
 use case_lines::marks::MARKS;
 use case_lines::numbers::numbers;
 use case_lines::sheets::Sheet;
-use case_lines::shown::{Counts, Refused, show_records};
+use case_lines::shown::{Refused, show_records};
 use list_elements::List;
 use sheet_read::read::read;
-use sheet_walk::Answer;
 use sheet_write::write::write;
 use std::io;
 
@@ -52,11 +51,11 @@ fn show_both(rt: &impl Print, sizes: Sizes, sheet: &Sheet) -> io::Result<()> {
     let room = sizes.buffer.min(space.len());
     let buffer = &mut space[..room];
     match write(sizes.width, sheet.format, sheet.list, sheet.bytes, buffer) {
-        Answer::Accepted { records, starred } => {
-            show_records(rt, Counts { records, starred }, buffer)?;
+        Ok(counts) => {
+            show_records(rt, counts.into(), buffer)?;
             show_reading(rt, sizes, sheet.format, sheet.list, buffer)
         }
-        Answer::Refused(refusal) => rt.println(Refused::from(refusal)),
+        Err(refusal) => rt.println(Refused::from(refusal)),
     }
 }
 

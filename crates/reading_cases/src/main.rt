@@ -4,7 +4,7 @@
 // junk, and so is the start of a text); `N` and a count, where the count is not that of the elements; a period. The area is
 // full of `#` before the call. For each case one line is written: the counts, the values read (`I n`, `D units places`, `L T`
 // or `L F`, `A start len`) and the whole area; or the refusal's number and place. Words are added where a refusal left a
-// changed area or values, or where the elements past the count are not 0.
+// changed area, or where the elements past the count are not 0.
 //
 // In a second sort of case, `W`, the record width, the text area's length and a buffer's length, a list is written and then
 // read back: the third line is the text area of the writing, and the elements are written as well as wanted. The buffer is full

@@ -1,7 +1,7 @@
 // The answers of writing.
 use case_lines::marks::is_marked;
-use case_lines::shown::{Counts, Refused, show_records};
-use sheet_walk::{Answer, Refusal};
+use case_lines::shown::{Refused, show_records};
+use sheet_walk::{Counts, Refusal};
 use std::io;
 
 // A refusal's number and place, and whether the buffer was changed.
@@ -11,11 +11,13 @@ fn show_refusal(rt: &impl Print, refusal: Refusal, buffer: &[u8]) -> io::Result<
     println!(rt; "{refused}{changed}")
 }
 
-pub fn show_answer(rt: &impl Print, answer: Answer, buffer: &[u8]) -> io::Result<()> {
+pub fn show_answer(
+    rt: &impl Print,
+    answer: Result<Counts, Refusal>,
+    buffer: &[u8],
+) -> io::Result<()> {
     match answer {
-        Answer::Accepted { records, starred } => {
-            show_records(rt, Counts { records, starred }, buffer)
-        }
-        Answer::Refused(refusal) => show_refusal(rt, refusal, buffer),
+        Ok(counts) => show_records(rt, counts.into(), buffer),
+        Err(refusal) => show_refusal(rt, refusal, buffer),
     }
 }

@@ -8,7 +8,7 @@ use lib.ListN.{length, length-map}
 use Rattle.list_elements.specs.Elements.{kind_of, values}
 use Rattle.list_elements.specs.Limits.{most_elements, may_be_wanted}
 use Rattle.list_elements.specs.Contents.{Content, content_kind, texts_of}
-use Rattle.list_elements.proofs.ApartLaws.{values_most, check_good}
+use Rattle.list_elements.proofs.GoodLaws.{values_most, check_good}
 use Rattle.list_elements.proofs.ContentLaws.{texts_length_lem}
 use Rattle.sheet_walk.specs.Steps.{Placement}
 use Rattle.sheet_walk.specs.Walk.{Trace, Sheet, sheet}

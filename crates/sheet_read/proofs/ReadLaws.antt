@@ -1,42 +1,36 @@
 -- What the inner functions of reading do, from what their callees say.
 -- Assumes nothing.
-use mathlib.Core.Path.{◌≡◌, refl, sym, ◌∙◌}
-use mathlib.Core.Bool.{true, false}
-use mathlib.Core.List.{List, map}
-use Prim.Native.Nat.{ℕ, ◌/◌}
-use native.Mathlib.Omega.{arith}
-use lib.Dec.{leb}
-use lib.IntN.{ℤ}
-use lib.ListN.{length}
+use Rattle.std.proofs.Common.{Bor, ◌≡◌, refl, sym, ap, subst, ◌∙◌, true, false, List, map, ℕ, ◌/◌, length}
+use Rattle.std.specs.Prelude.{leb, Result, Ok, Err}
 use Rattle.format_items.specs.Items.{Items}
 use Rattle.format_grammar.specs.Check as formats
 use Rattle.format_items.specs.declared.FormatRefusal.{FormatRefusal}
 use Rattle.list_elements.specs.Elements.{Kind}
 use Rattle.list_elements.specs.Limits.{ListCheck, good, bad, texts_length}
-use Rattle.list_elements.specs.Apart.{kind_from}
 use Rattle.list_elements.specs.Contents.{Content}
+use Rattle.list_elements.specs.declared.BadElement.{BadElement}
+use Rattle.list_elements.specs.declared.Element.{Element}
+use Rattle.sheet_walk.specs.Given as given
 use Rattle.sheet_walk.specs.Steps.{width_right}
 use Rattle.sheet_walk.specs.Promises.{WidthRight}
 use Rattle.sheet_walk.specs.Walk.{sheet, walk}
-use Rattle.sheet_walk.specs.Turns.{sheet_of}
 use Rattle.sheet_walk.specs.declared.Refusal.{Refusal}
 use Rattle.sheet_walk.specs.declared.Refusal.TheVariants as refusal
-use Rattle.sheet_walk.specs.declared.Ending.{Ending}
-use Rattle.sheet_walk.specs.declared.Ending.TheVariants as ending
 use Rattle.sheet_rows.specs.Rows as rows
 use Rattle.sheet_rows.specs.Rows.{Row, in_order, format_row, rows_before, records_in}
 use Rattle.sheet_rows.proofs.RowLaws as row
 use Rattle.read_passes.specs.Given.{Gathered, accepted, refused, gathered}
 use Rattle.read_passes.specs.Passes as passes
+use Rattle.read_passes.specs.Passes.{FoundSoFar}
 use Rattle.sheet_read.specs.Reading.{Reading, accepts, refuses, concluded, wanted_rows, reading_of}
-use Rattle.sheet_read.specs.Parts.{ending_of, Did}
+use Rattle.sheet_read.specs.Parts.{ending_of, Did, ReadText}
 
 -- ---- a refusal, and what is gathered on the walk
 
 not_accepts : {P : Type 0} {why : Refusal} {cs : List Content} {n : ℕ} → refuses why ≡ accepts cs n → P
-not_accepts e = let z : ◌≡◌ {A = ℕ} 0 1 = cc in absurd (omega arith)
+not_accepts e = let z : ⊥ = cc in absurd z
 
-pub did_refused : {m : Reading} {why : Refusal} {kinds records : List ℕ} {ms : List ℤ} {ds : List ℕ} → m ≡ refuses why → Did m kinds records (ending.Refused why) ms ds
+pub did_refused : {m : Reading} {why : Refusal} {kinds : List Kind} {records : List ℕ} {found : List Element} → m ≡ refuses why → Did m kinds records (Err why) found
 did_refused e = record { ends = rw e; held = λ cs n f. not_accepts (sym e ∙ f) }
 
 concluded_ending : (g : Gathered) → passes.ending_of g ≡ ending_of (concluded g)
@@ -67,49 +61,58 @@ module _ (check : ListCheck) (kinds : List Kind) (room : ℕ) where
     unfolding wanted_rows in_order
     wanted_passed e = rw (g, e)
 
-module _ (R : ℕ) (text : List ℕ) (check : ListCheck) (kinds : List ℕ) (room : ℕ) (records : List ℕ) where
+module _ (R : ℕ) (text : List ℕ) (check : ListCheck) (kinds : List Kind) (room : ℕ) (records : List ℕ) where
   -- the rows of the wanted elements, and the reading
   abbrev wanted : Row
-  wanted = wanted_rows check (map kind_from kinds) room
+  wanted = wanted_rows check kinds room
 
   abbrev it : Reading
-  it = reading_of R text check (map kind_from kinds) room records
+  it = reading_of R text check kinds room records
 
   row_refuses : {why : Refusal} → rows_before R (format_row (formats.outcome text)) wanted (length records / R) ≡ rows.refused why
-      → {ms : List ℤ} {ds : List ℕ} → Did it kinds records (ending.Refused why) ms ds
+      → {found : List Element} → Did it kinds records (Err why) found
   unfolding reading_of
   row_refuses e = did_refused (rw e)
 
-  pub width_refuses : width_right R ≡ false → {ms : List ℤ} {ds : List ℕ} → Did it kinds records (ending.Refused refusal.RecordWidth) ms ds
+  pub width_refuses : width_right R ≡ false → {found : List Element} → Did it kinds records (Err refusal.RecordWidth) found
   width_refuses e = row_refuses (row.width_refuses R text wanted (length records / R) e)
 
   module _ (w : WidthRight R) where
     pub format_refuses : {why : FormatRefusal} → formats.outcome text ≡ formats.refused why
-        → {ms : List ℤ} {ds : List ℕ} → Did it kinds records (ending.Refused (refusal.Format why)) ms ds
+        → {found : List Element} → Did it kinds records (Err (refusal.Format why)) found
     format_refuses e = row_refuses (row.format_refuses R text wanted (length records / R) w e)
 
     module _ {xs : Items} (a : formats.outcome text ≡ formats.accepted xs) where
-      pub list_refuses : {p : ℕ} → check ≡ bad p → {ms : List ℤ} {ds : List ℕ} → Did it kinds records (ending.Refused (refusal.Element p)) ms ds
-      list_refuses e = row_refuses (row.list_refuses R text wanted (length records / R) w a (element_refuses check (map kind_from kinds) room e))
+      pub list_refuses : {p : ℕ} → check ≡ bad p → {found : List Element} → Did it kinds records (Err (refusal.Element p)) found
+      list_refuses e = row_refuses (row.list_refuses R text wanted (length records / R) w a (element_refuses check kinds room e))
 
       module _ (g : check ≡ good) where
-        pub no_room : leb (texts_length (map kind_from kinds)) room ≡ false → {ms : List ℤ} {ds : List ℕ} → Did it kinds records (ending.Refused refusal.TextArea) ms ds
-        no_room f = row_refuses (row.list_refuses R text wanted (length records / R) w a (area_refuses check (map kind_from kinds) room g f))
+        pub no_room : leb (texts_length kinds) room ≡ false → {found : List Element} → Did it kinds records (Err refusal.TextArea) found
+        no_room f = row_refuses (row.list_refuses R text wanted (length records / R) w a (area_refuses check kinds room g f))
 
-        module _ (f : leb (texts_length (map kind_from kinds)) room ≡ true) where
-          pub no_record : length records / R ≡ 0 → {ms : List ℤ} {ds : List ℕ} → Did it kinds records (ending.Refused refusal.NoRecord) ms ds
-          no_record n = row_refuses (row.record-refuses R text wanted (length records / R) w a (wanted_passed check (map kind_from kinds) room g f) n)
+        module _ (h : leb (texts_length kinds) room ≡ true) where
+          pub no_record : length records / R ≡ 0 → {found : List Element} → Did it kinds records (Err refusal.NoRecord) found
+          no_record n = row_refuses (row.record-refuses R text wanted (length records / R) w a (wanted_passed check kinds room g h) n)
 
-          -- the walk, over a run of words that is that of the format
-          pub walked : (t words : List ℕ) (back : ℕ) → (length records / R ≡ 0 → ⊥) → sheet_of t words back kinds (records_in R (length records)) ≡ sheet xs (map kind_from kinds) (records_in R (length records))
-              → {r : Ending} {ms : List ℤ} {ds : List ℕ} → passes.Read t words back kinds (records_in R (length records)) records r ms ds → Did it kinds records r ms ds
+          -- the walk, under the sheet of the format
+          pub walked : (length records / R ≡ 0 → ⊥) → {r : Result ℕ Refusal} {found : List Element}
+              → (let G = gathered R kinds records (walk (sheet xs kinds (records_in R (length records)))) in
+              r ≡ passes.ending_of G → ((cs : List Content) (n : ℕ) → G ≡ accepted cs n → FoundSoFar records kinds found cs) → Did it kinds records r found)
           unfolding reading_of
-          walked t words back n s p =
-              let G = gathered R (map kind_from kinds) records (walk (sheet_of t words back kinds (records_in R (length records)))) in
-              let q : reading_of R text check (map kind_from kinds) room records ≡ concluded G =
+          walked n e f =
+              let G = gathered R kinds records (walk (sheet xs kinds (records_in R (length records)))) in
+              let q : reading_of R text check kinds room records ≡ concluded G =
               rw (
-                row.all_passed R text wanted (length records / R) w a (wanted_passed check (map kind_from kinds) room g f) n,
-                row.walk_under_lem text xs (map kind_from kinds) (records_in R (length records)) a,
-                ← s,
+                row.all_passed R text wanted (length records / R) w a (wanted_passed check kinds room g h) n,
+                row.walk_under_lem text xs kinds (records_in R (length records)) a,
               ) in
-              rw q (record { ends = p.ends ∙ concluded_ending G; held = λ cs m z. p.held cs m (concluded_accepts G z) })
+              rw q (record { ends = e ∙ concluded_ending G; held = λ cs m z. f cs m (concluded_accepts G z) })
+
+-- for any list
+module _ (R : ℕ) (text : List ℕ) (x : Result (Bor (List Element)) BadElement) (room : ℕ) (records : List ℕ) (found : List Element) where
+  pub format_text : WidthRight R → {why : FormatRefusal} → formats.outcome text ≡ formats.refused why → ReadText R text x room records (Err (refusal.Format why)) found
+  format_text w {why} e = go x
+    where
+      go : (y : Result (Bor (List Element)) BadElement) → ReadText R text y room records (Err (refusal.Format why)) found
+      go (Ok es) = format_refuses R text good (given.kinds_of es.now) room records w e
+      go (Err b) = λ kinds. format_refuses R text (Err b) kinds room records w e

@@ -1,40 +1,33 @@
 -- What the inner functions of reading do. (Nothing here need be believed: the public call's contract does not speak of it.)
 -- Assumes nothing.
-use Rattle.std.specs.Prelude.{◌≡◌, List, map, ℕ, ℤ}
-use Rattle.format_load.specs.Loaded.{RunHeld}
-use Rattle.list_elements.specs.Limits.{ListCheck}
-use Rattle.list_elements.specs.Apart.{kind_from}
+use Rattle.std.specs.Prelude.{◌≡◌, List, ℕ, ◌≤◌, length, Result, Ok, Err}
+use Rattle.std.proofs.Common.{Bor}
+use Rattle.list_elements.specs.Elements.{Kind}
+use Rattle.list_elements.specs.Limits.{good}
 use Rattle.list_elements.specs.Contents.{Content}
-use Rattle.sheet_walk.specs.declared.Ending.{Ending}
-use Rattle.sheet_walk.specs.declared.Ending.TheVariants as ending
-use Rattle.read_passes.specs.Passes.{HeldSoFar}
+use Rattle.list_elements.specs.declared.BadElement.{BadElement}
+use Rattle.list_elements.specs.declared.Element.{Element}
+use Rattle.sheet_walk.specs.Given.{kinds_of}
+use Rattle.sheet_walk.specs.declared.Refusal.{Refusal}
+use Rattle.read_passes.specs.Passes.{FoundSoFar}
 use Rattle.sheet_read.specs.Reading.{Reading, accepts, refuses, reading_of}
-use Rattle.sheet_walk.specs.declared.Answer.{Answer}
-use Rattle.sheet_walk.specs.declared.Answer.TheVariants as answer
 
--- how many of n elements are given after such an ending, and what the public call answers
-abbrev pub given_count : Ending → ℕ → ℕ
-given_count (ending.Refused why) n = 0
-given_count (ending.Accepted k) n = n
-
-abbrev pub ending_answer : Ending → Answer
-ending_answer (ending.Refused why) = answer.Refused why
-ending_answer (ending.Accepted k) = answer.Accepted k 0
+-- at most n elements are wanted
+abbrev pub WantedWithin : Result (Bor (List Element)) BadElement → ℕ → Type 0
+WantedWithin (Ok es) n = length es.now ≤ n
+WantedWithin (Err e) n = Unit
 
 -- how a reading ends, as the inner functions answer it
-abbrev pub ending_of : Reading → Ending
-ending_of (accepts cs n) = ending.Accepted n
-ending_of (refuses why) = ending.Refused why
+abbrev pub ending_of : Reading → Result ℕ Refusal
+ending_of (accepts cs n) = Ok n
+ending_of (refuses why) = Err why
 
--- the answer r is that of a reading m; where it is accepted, amounts and details hold what the elements hold
-pub record Did (m : Reading) (kinds records : List ℕ) (r : Ending) (amounts : List ℤ) (details : List ℕ) : Type 0 where
+-- the answer r is that of a reading m; where it is accepted, what the elements hold was found
+pub record Did (m : Reading) (kinds : List Kind) (records : List ℕ) (r : Result ℕ Refusal) (found : List Element) : Type 0 where
   pub ends : r ≡ ending_of m
-  pub held : (cs : List Content) (n : ℕ) → m ≡ accepts cs n → HeldSoFar records (map kind_from kinds) amounts details cs
+  pub held : (cs : List Content) (n : ℕ) → m ≡ accepts cs n → FoundSoFar records kinds found cs
 
--- under the run of a format
-pub record ReadRun (width : ℕ) (t words : List ℕ) (back : ℕ) (check : ListCheck) (kinds : List ℕ) (room : ℕ) (records : List ℕ) (r : Ending) (amounts : List ℤ) (details : List ℕ) : Type 0 where
-  pub read : (format : List ℕ) → RunHeld format t words back → Did (reading_of width format check (map kind_from kinds) room records) kinds records r amounts details
-
--- under a format's text
-pub record ReadText (width : ℕ) (text : List ℕ) (check : ListCheck) (kinds : List ℕ) (room : ℕ) (records : List ℕ) (r : Ending) (amounts : List ℤ) (details : List ℕ) : Type 0 where
-  pub read : Did (reading_of width text check (map kind_from kinds) room records) kinds records r amounts details
+-- under a format's text, for the wanted elements of a good list, or its bad element, whatever its kinds
+abbrev pub ReadText : ℕ → List ℕ → Result (Bor (List Element)) BadElement → ℕ → List ℕ → Result ℕ Refusal → List Element → Type 0
+ReadText R text (Ok es) room records r found = Did (reading_of R text good (kinds_of es.now) room records) (kinds_of es.now) records r found
+ReadText R text (Err e) room records r found = (kinds : List Kind) → Did (reading_of R text (Err e) kinds room records) kinds records r found

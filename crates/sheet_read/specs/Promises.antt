@@ -17,9 +17,8 @@ use Rattle.sheet_walk.specs.declared.Refusal.{Refusal}
 use Rattle.sheet_rows.specs.Rows.{records_in}
 use Rattle.sheet_rows.specs.Promises.{RowsPassed, RowAnswers, BadElement}
 use Rattle.read_passes.specs.Given.{Given, gives, nothing, field_gives, kind_at}
-use Rattle.sheet_walk.specs.Answers.{answer_number, answer_place, answer_records, answer_starred}
+use Rattle.sheet_walk.specs.Answers.{Answer, answer_number, answer_place, answer_records, answer_starred}
 use Rattle.sheet_read.specs.Reading.{Reading, accepts, refuses, reading, read_answer, read_list, read_area}
-use Rattle.sheet_walk.specs.declared.Answer.{Answer}
 
 -- ---- what a call is given
 

@@ -1,20 +1,20 @@
 -- Document 01, 'The list', 'The walk' and 'Checks by place': reading. The outcome, the list given and the text area afterwards,
 -- for every record width R, format, list of wanted elements, text area and records.
 -- Assumes nothing.
-use Rattle.std.specs.Prelude.{cond, List, [], ◌∷◌, map, ℕ, ◌/◌, leb, length}
+use Rattle.std.specs.Prelude.{cond, List, [], ◌∷◌, map, ℕ, ◌/◌, leb, length, Result, Ok, Err}
 use Rattle.format_grammar.specs.Check.{outcome}
 use Rattle.list_elements.specs.Elements.{Kind, kind_of, empty_list, values}
 use Rattle.list_elements.specs.Limits.{ListCheck, wanted_check, texts_length}
 use Rattle.list_elements.specs.Contents.{Content, laid_texts, values_from, list_of}
 use Rattle.list_elements.specs.declared.List as carried
+use Rattle.sheet_walk.specs.Answers.{Answer}
 use Rattle.sheet_walk.specs.Refusals.{refusal_number, refusal_place}
 use Rattle.sheet_walk.specs.declared.Refusal.{Refusal}
 use Rattle.sheet_walk.specs.declared.Refusal.TheVariants.{TextArea}
 use Rattle.sheet_rows.specs.Rows as rows
 use Rattle.sheet_rows.specs.Rows.{Row, passed, in_order, format_row, element_row, rows_before, after_rows, records_in, walk_under}
 use Rattle.read_passes.specs.Given.{Gathered, accepted, refused, gathered}
-use Rattle.sheet_walk.specs.declared.Answer.{Answer}
-use Rattle.sheet_walk.specs.declared.Answer.TheVariants as answer
+use Rattle.sheet_read.specs.declared.SheetRead.{SheetRead}
 
 -- accepted, with what the elements hold, in list order, and the number of records reached, or refused
 pub data Reading : Type 0 where
@@ -51,8 +51,8 @@ reading R format wanted room records = reading_of R format (wanted_check wanted)
 
 -- 'The result carries the number of records and the number of starred fields .., 0 in reading.'
 abbrev pub answer_of : Reading → Answer
-answer_of (accepts cs n) = answer.Accepted n 0
-answer_of (refuses why) = answer.Refused why
+answer_of (accepts cs n) = Ok (record { records = n; starred = 0 })
+answer_of (refuses why) = Err why
 
 -- the values in list order, texts from the first byte of the area on; refused, 'no values'
 abbrev pub list_given : Reading → carried.List
@@ -63,6 +63,15 @@ list_given (refuses why) = empty_list
 abbrev pub area_of : List ℕ → Reading → List ℕ
 area_of area (accepts cs n) = laid_texts area cs
 area_of area (refuses why) = area
+
+-- the answer and the list of what the code answers; of a refusal the empty list
+abbrev pub answer_in : Result SheetRead Refusal → Answer
+answer_in (Ok r) = Ok (record { records = r.records; starred = 0 })
+answer_in (Err why) = Err why
+
+abbrev pub list_in : Result SheetRead Refusal → carried.List
+list_in (Ok r) = r.list
+list_in (Err why) = empty_list
 
 -- what `read` answers, gives, and leaves in the text area
 abbrev pub read_answer : ℕ → List ℕ → carried.List → List ℕ → List ℕ → Answer

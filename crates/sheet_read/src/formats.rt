@@ -1,122 +1,95 @@
 // Under a format: loaded into arrays that are large enough for it. A local array is cleared at each call, so small ones are
 // tried first.
-ghost use Rattle.std.specs.Prelude.{◌≤◌, ◌<◌, ◌^◌, length, IfSome, IfNone};
+ghost use Rattle.std.specs.Prelude.{List, ℕ, ◌≤◌, length, IfSome, IfNone};
 ghost use Rattle.format_items.specs.Refusals.{longest_format};
 ghost use Rattle.format_items.specs.Size.{largest_size};
-ghost use Rattle.format_load.specs.Loaded.{SomeRun};
+ghost use Rattle.format_load.specs.Loaded.{RunHeld};
 ghost use Rattle.sheet_walk.specs.Promises.{WidthRight};
-ghost use Rattle.sheet_read.specs.Parts.{ReadRun, ReadText};
+ghost use Rattle.sheet_read.specs.Parts.{WantedWithin, ReadText};
 
 use format_load::LoadError;
 use format_load::load::load;
-use list_elements::BadElement;
-use list_elements::wanted::texts_fit;
+use format_words::run::Run;
+use format_words::{Entry, Word};
+use list_elements::texts::texts_fit;
+use list_elements::{BadElement, Element};
 use read_passes::reading::read_pass;
-use sheet_walk::{Ending, Records, Refusal, WIDEST_RECORD};
+use sheet_walk::{Records, Refusal};
 
 // Under a format that was loaded, if the wanted elements are good, their texts have room and there is a record: rows 6, 13 and
 // 9, and the walk.
-fn read_loaded(
+fn read_run(
     width: usize,
-    words: &[u64],
-    back: usize,
-    chars: &[u8],
-    check: Result<(), BadElement>,
-    kinds: &[u64],
+    run: Run<'_>,
+    wanted: Result<&[Element], BadElement>,
     room: usize,
     records: &[u8],
-    amounts: &mut [i64],
-    details: &mut [usize],
-) -> Ending
-    requires { WidthRight width × SomeRun chars.now words.now back × (length kinds.now < 2 ^ 32) × (length kinds.now ≤ length amounts.old) × (length kinds.now ≤ length details.old) }
-    ensures { ReadRun width chars.now words.now back check kinds.now room records.now result amounts.new details.new }
+    found: &mut [Element],
+) -> Result<usize, Refusal>
+    requires right { WidthRight width }
+    requires long { WantedWithin wanted (length found.old) }
+    ensures { (format : List ℕ) → RunHeld format run.entry → ReadText width format wanted.entry room records.now result found.new }
 {
-    match check {
-        Err(BadElement { place }) => Ending::Refused(Refusal::Element { place }),
-        Ok(()) => {
-            if !texts_fit(kinds, room) {
-                return Ending::Refused(Refusal::TextArea);
-            }
-            let count = records.len() / width;
-            if count == 0 {
-                return Ending::Refused(Refusal::NoRecord);
-            }
-            let rs = Records { width, count };
-            read_pass(words, back, kinds, rs, records, amounts, details)
-        }
+    let wanted = wanted?;
+    if !texts_fit(wanted, room) {
+        return Err(Refusal::TextArea);
     }
+    let count = records.len() / width;
+    if count == 0 {
+        return Err(Refusal::NoRecord);
+    }
+    read_pass(run, wanted, Records { width, count }, records, found)
 }
 
-// With arrays for a format of at most CHARS bytes that has a run of at most RUN words, for wanted elements that were checked;
-// `None` where they are too small for this format. Not inlined, so that the stack of a call holds the arrays of one size.
+// With arrays for a format of at most CHARS bytes that has a run of at most RUN words; `None` where they are too small for this
+// format. Not inlined, so that the stack of a call holds the arrays of one size.
 #[inline(never)]
 fn read_within<const CHARS: usize, const RUN: usize>(
     width: usize,
     format: &[u8],
-    check: Result<(), BadElement>,
-    kinds: &[u64],
+    wanted: Result<&[Element], BadElement>,
     room: usize,
     records: &[u8],
-    amounts: &mut [i64],
-    details: &mut [usize],
-) -> Option<Ending>
-    requires wanted { WidthRight width × (length kinds.now < 2 ^ 32) × (length kinds.now ≤ length amounts.old) × (length kinds.now ≤ length details.old) }
+    found: &mut [Element],
+) -> Option<Result<usize, Refusal>>
+    requires right { WidthRight width }
+    requires long { WantedWithin wanted (length found.old) }
     requires sizes { (CHARS ≤ longest_format) × (RUN ≤ largest_size) }
-    ensures read { IfSome result (λ ending. ReadText width format.now check kinds.now room records.now ending amounts.new details.new) }
+    ensures read { IfSome result (λ answer. ReadText width format.now wanted.entry room records.now answer found.new) }
     ensures too_small { IfNone result (longest_format ≤ CHARS → largest_size ≤ RUN → ⊥) }
 {
-    let mut entries = [0u64; CHARS];
+    let none = Word::I { width: 0 };
+    let mut entries = [Entry::Item {
+        word: none,
+        repeat: 0,
+    }; CHARS];
     let mut chars = [0u8; CHARS];
-    let mut run = [0u64; RUN];
-    match load(format, &mut entries, &mut chars, &mut run) {
+    let mut words = [none; RUN];
+    match load(format, &mut entries, &mut chars, &mut words) {
         Err(LoadError::TooSmall) => None,
-        Err(LoadError::Refused(refusal)) => Some(Ending::Refused(Refusal::Format(refusal))),
-        Ok(loaded) => Some(read_loaded(
-            width,
-            &run[..loaded.end],
-            loaded.back,
-            &chars,
-            check,
-            kinds,
-            room,
-            records,
-            amounts,
-            details,
-        )),
+        Err(LoadError::Refused(refusal)) => Some(Err(Refusal::Format(refusal))),
+        Ok(run) => Some(read_run(width, run, wanted, room, records, found)),
     }
 }
 
-// With any width: row 1 as well.
-pub fn read_numbers(
+// Rows 2 to 6, 13 and 9, and the walk: under any format, for a width that is right. No format needs larger arrays than the last.
+pub fn read_under(
     width: usize,
     format: &[u8],
-    check: Result<(), BadElement>,
-    kinds: &[u64],
+    wanted: Result<&[Element], BadElement>,
     room: usize,
     records: &[u8],
-    amounts: &mut [i64],
-    details: &mut [usize],
-) -> Ending
-    requires { (length kinds.now < 2 ^ 32) × (length kinds.now ≤ length amounts.old) × (length kinds.now ≤ length details.old) }
-    ensures { ReadText width format.now check kinds.now room records.now result amounts.new details.new }
+    found: &mut [Element],
+) -> Result<usize, Refusal>
+    requires right { WidthRight width }
+    requires long { WantedWithin wanted (length found.old) }
+    ensures { ReadText width format.now wanted.entry room records.now result found.new }
 {
-    // Two tests, as in writing.
-    if width < 1 {
-        return Ending::Refused(Refusal::RecordWidth);
+    if let Some(answer) = read_within::<64, 64>(width, format, wanted, room, records, found) {
+        return answer;
     }
-    if WIDEST_RECORD < width {
-        return Ending::Refused(Refusal::RecordWidth);
+    if let Some(answer) = read_within::<256, 512>(width, format, wanted, room, records, found) {
+        return answer;
     }
-    if let Some(ending) = read_within::<64, 64>(
-        width, format, check, kinds, room, records, amounts, details,
-    ) {
-        return ending;
-    }
-    if let Some(ending) = read_within::<256, 512>(
-        width, format, check, kinds, room, records, amounts, details,
-    ) {
-        return ending;
-    }
-    // No format needs larger arrays.
-    read_within::<1024, 4096>(width, format, check, kinds, room, records, amounts, details).unwrap()
+    read_within::<1024, 4096>(width, format, wanted, room, records, found).unwrap()
 }

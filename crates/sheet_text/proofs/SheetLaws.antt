@@ -16,8 +16,9 @@ use Rattle.sheet_walk.specs.Laid.{written}
 use Rattle.sheet_walk.specs.Refusals.{refusal_number, refusal_place}
 use Rattle.sheet_walk.specs.declared.Refusal.{Refusal}
 use Rattle.sheet_walk.specs.declared.Refusal.TheVariants as refusal
-use Rattle.sheet_walk.specs.declared.Answer.{Answer}
-use Rattle.sheet_walk.specs.declared.Answer.TheVariants as answer
+use Rattle.sheet_walk.specs.Answers.{Answer}
+use Rattle.sheet_walk.specs.declared.Counts.{Counts}
+use Rattle.std.specs.Prelude.{Ok, Err}
 use Rattle.sheet_walk.proofs.Windows.{AllFit}
 use Rattle.write_passes.specs.Placed.{characters, starred_in}
 use Rattle.sheet_write.specs.Writing.{Writing, accepts, refuses, answer_of, buffer_of}
@@ -48,7 +49,7 @@ did s before l w e f g a b =
     record { answers = a ∙ rw (x, f, g, l); bytes = b ∙ rw (x, f, g, l); is = b ∙ rw (x, f, g) }
 
 -- a first line that is no width is refused as the width 0
-pub no_width : (s before : List ℕ) → length before ≡ record_buffer → input_width s ≡ 0 → Did s before (answer.Refused refusal.RecordWidth) before
+pub no_width : (s before : List ℕ) → length before ≡ record_buffer → input_width s ≡ 0 → Did s before (Err refusal.RecordWidth) before
 no_width s before l e =
     let right : width_right (input_width s) ≡ false = rw e in
     let w = width_refuses (input_width s) (input_format s) (line_check (input_list s)) {area = input_list s} {vs = line_values (input_list s)} {before = before} right in
@@ -56,28 +57,28 @@ no_width s before l e =
 
 -- ---- a refused input
 
-refused_writing : (vs : List Value) (w : Writing) {why : Refusal} → answer.Refused why ≡ answer_of vs w → w ≡ refuses why
-refused_writing vs (accepts t n) e = let z : ◌≡◌ {A = ℕ} 0 1 = cc in absurd (omega arith)
+refused_writing : (vs : List Value) (w : Writing) {why : Refusal} → Err why ≡ answer_of vs w → w ≡ refuses why
+refused_writing vs (accepts t n) e = let z : ⊥ = cc in absurd z
 refused_writing vs (refuses why) e = cc
 
-pub sheet_refused : (s before : List ℕ) {r : Answer} {after : List ℕ} {why : Refusal} → Did s before r after → r ≡ answer.Refused why → sheet_output s ≡ refused_line (refusal_number why) (refusal_place why)
+pub sheet_refused : (s before : List ℕ) {r : Answer} {after : List ℕ} {why : Refusal} → Did s before r after → r ≡ Err why → sheet_output s ≡ refused_line (refusal_number why) (refusal_place why)
 unfolding sheet_output
 sheet_refused s before d e = rw (refused_writing (line_values (input_list s)) (input_writing s) (sym e ∙ d.answers))
 
 -- ---- an accepted one
 
+abbrev pub counts : ℕ → ℕ → Counts
+counts n k = record { records = n; starred = k }
+
 data AcceptedWriting (vs : List Value) (n k : ℕ) : Writing → Type 0 where
   accepted_as : (t : Trace) → k ≡ starred_in vs t → AcceptedWriting vs n k (accepts t n)
 
-accepted_writing : (vs : List Value) (w : Writing) {n k : ℕ} → answer.Accepted n k ≡ answer_of vs w → AcceptedWriting vs n k w
-accepted_writing vs (accepts t m) {n} {k} e = rw (n_is) (AcceptedWriting.accepted_as t k_is)
+accepted_writing : (vs : List Value) (w : Writing) {n k : ℕ} → Ok (counts n k) ≡ answer_of vs w → AcceptedWriting vs n k w
+accepted_writing vs (accepts t m) {n} {k} e = rw (ap (λ z. z.records) same) (AcceptedWriting.accepted_as t (ap (λ z. z.starred) same))
   where
-    n_is : n ≡ m
-    n_is = cc
-
-    k_is : k ≡ starred_in vs t
-    k_is = cc
-accepted_writing vs (refuses why) e = let z : ◌≡◌ {A = ℕ} 0 1 = cc in absurd (omega arith)
+    same : counts n k ≡ counts m (starred_in vs t)
+    same = cc
+accepted_writing vs (refuses why) e = let z : ⊥ = cc in absurd z
 
 -- what is known of it: n records of R bytes fit, and the output is theirs, from the buffer afterwards
 pub record Output (s after : List ℕ) (n k : ℕ) : Type 0 where
@@ -109,7 +110,7 @@ module _ (s before after : List ℕ) (l : length before ≡ record_buffer) (t : 
       ∙ lines_front R n (written R (characters (input_list s) vs) t n []) (drop (n * R) before) (omega (arith, written_long R n (characters (input_list s) vs) t all_fit)) in
       record { room = omega arith; few = r.1; is = rw (w, q) (ap (λ (x : List ℕ). x ++ counts_line n (starred_in vs t)) (sym f)) }
 
-pub sheet_accepted : (s before : List ℕ) {r : Answer} {after : List ℕ} {n k : ℕ} → length before ≡ record_buffer → Did s before r after → r ≡ answer.Accepted n k → Output s after n k
+pub sheet_accepted : (s before : List ℕ) {r : Answer} {after : List ℕ} {n k : ℕ} → length before ≡ record_buffer → Did s before r after → r ≡ Ok (counts n k) → Output s after n k
 sheet_accepted s before {r} {after} {n} {k} l d e = go (input_writing s) refl (accepted_writing (line_values (input_list s)) (input_writing s) (sym e ∙ d.answers))
   where
     go : (w : Writing) → input_writing s ≡ w → AcceptedWriting (line_values (input_list s)) n k w → Output s after n k

@@ -5,33 +5,36 @@ use mathlib.Core.List.{List, [], map}
 use Prim.Native.Nat.{ℕ, ◌*◌, ◌/◌, ◌≤◌}
 use native.Mathlib.Nat.{mul-le-mul_left, mul-one}
 use native.Mathlib.Omega.{arith}
-use lib.IntN.{ℤ}
+use mathlib.Core.Bool.{true}
 use lib.ListN.{length, take}
-use lib.Seq.{length-take-le}
-use Rattle.std.specs.Prelude.{Ok, Err}
+use Rattle.std.specs.List.{take-map}
+use Rattle.std.specs.Prelude.{Result, Ok, Err, All}
 use Rattle.format_grammar.specs.Check.{refused, outcome}
 use Rattle.format_items.specs.declared.FormatRefusal.{FormatRefusal}
-use Rattle.list_elements.specs.Elements.{kind_of, empty_list, values}
-use Rattle.list_elements.specs.Limits.{ListCheck, good, bad, most_elements, within_limits, first_failing, check_values, list_check}
-use Rattle.list_elements.specs.Apart.{Apart, SomeGood}
-use Rattle.list_elements.proofs.ApartLaws.{check_good}
+use Rattle.list_elements.specs.Elements.{kind_of, value_of, values}
+use Rattle.list_elements.specs.Limits.{ListCheck, good, bad, most_elements, within_limits, list_check}
+use Rattle.list_elements.proofs.GoodLaws.{check_good, good_all}
+use Rattle.list_elements.specs.declared.BadElement.{BadElement}
+use Rattle.list_elements.specs.declared.Element.{Element}
+use Rattle.list_elements.specs.declared.listed.Listed.{Listed}
 use Rattle.list_elements.specs.Contents.{list_of}
 use Rattle.list_elements.proofs.ContentLaws.{values_list}
 use Rattle.list_elements.specs.declared.Value.{Value}
 use Rattle.list_elements.specs.declared.List as carried
 use Rattle.sheet_walk.specs.declared.Refusal.{Refusal}
-use Rattle.sheet_walk.specs.declared.Refusal.TheVariants.{RecordWidth, Format, Element}
+use Rattle.sheet_walk.specs.declared.Refusal.TheVariants as refusal
+use Rattle.sheet_walk.specs.declared.Refusal.TheVariants.{RecordWidth, Format}
 use Rattle.sheet_rows.specs.Rows.{Row, format_row, element_row, after_rows, records_in, walk_under}
 use Rattle.sheet_rows.proofs.RowLaws as row
 use Rattle.sheet_rows.proofs.RowLaws.{wrong_format, wrong_format_lem, wrong_format_refused, bad_list, bad_same, after_refused}
 use Rattle.sheet_write.specs.Writing.{Writing, accepts, refuses, walked, writing_of, writing, answer_of}
-use Rattle.sheet_write.specs.Parts.{ListedIf}
+use Rattle.sheet_write.specs.Parts.{Wrote, WroteText}
 use Rattle.sheet_write.specs.Promises.{Call, becomes}
 use Rattle.sheet_write.proofs.Promises.{accepts_exactly, records_reached}
 use Rattle.sheet_walk.specs.Walk.{Trace}
-use Rattle.sheet_walk.specs.Answers.{answer_records}
-use Rattle.list_text.specs.ListText.{line_values, line_check, list_given, line_list}
-use Rattle.sheet_text.specs.FromListText.{writing_from, answer_from}
+use Rattle.sheet_walk.specs.Answers.{Answer, answer_records}
+use Rattle.list_text.specs.ListText.{line_values, line_check, list_read, line_read}
+use Rattle.sheet_text.specs.FromListText.{writing_from, answer_from, listed_from}
 use Rattle.sheet_text.specs.Promises.{WritingFromIs}
 
 -- ---- the list of a list text
@@ -58,8 +61,8 @@ writing_from_is =
 pub bad_writing : (R : ℕ) (format : List ℕ) (p : ℕ) (vs : List Value) (B : ℕ) → writing_of R format (bad p) vs B ≡ writing_of R format (bad p) [] 0
 unfolding writing_of
 bad_writing R format p vs B =
-    ap (λ (w : Row). after_rows refuses w (walked vs (walk_under format (map kind_of vs) (records_in R B)))) (bad_same R (Element p) (format_row (outcome format)) (B / R) (0 / R))
-    ∙ after_refused refuses (bad_list R (Element p) (format_row (outcome format)) (0 / R)) _ _
+    ap (λ (w : Row). after_rows refuses w (walked vs (walk_under format (map kind_of vs) (records_in R B)))) (bad_same R (refusal.Element p) (format_row (outcome format)) (B / R) (0 / R))
+    ∙ after_refused refuses (bad_list R (refusal.Element p) (format_row (outcome format)) (0 / R)) _ _
 
 -- refused, so that neither the values nor the buffer before matter
 pub data IsRefused : Writing → Type 0 where
@@ -70,7 +73,7 @@ after_is_refused walk (row.IsRefused.refused_by why) = IsRefused.refused_by why
 
 pub bad_is_refused : (R : ℕ) (format : List ℕ) (p : ℕ) → IsRefused (writing_of R format (bad p) [] 0)
 unfolding writing_of
-bad_is_refused R format p = after_is_refused _ (bad_list R (Element p) (format_row (outcome format)) (0 / R))
+bad_is_refused R format p = after_is_refused _ (bad_list R (refusal.Element p) (format_row (outcome format)) (0 / R))
 
 -- under a format that is refused
 abbrev pub format_refused : ℕ → FormatRefusal → Writing
@@ -87,44 +90,41 @@ wrong_is_refused R why = after_is_refused (refuses RecordWidth) (wrong_format_re
 
 -- ---- the list that is read
 
-module _ (text : List ℕ) {k : ListCheck} {l : carried.List} (e : k ≡ line_check text) (q : l ≡ line_list text) where
-  -- where row 6 passes, it has the values of the lines
-  module _ (g : k ≡ good) where
-    list_is : l ≡ list_of (line_values text)
-    list_is = q ∙ ap (λ x. list_given x (line_values text)) (sym e ∙ g)
-
-    values_are : values l ≡ line_values text
-    values_are = ap values list_is ∙ values_list (line_values text)
-
-    check_is : list_check text l ≡ good
-    check_is = ap (list_check text) list_is ∙ text_list_check text ∙ sym e ∙ g
-
-  -- it is good either way, being empty where row 6 refuses
-  pub list_good : SomeGood l
-  unfolding check_values first_failing values
-  list_good = go k refl
+module _ (text : List ℕ) where
+  -- where row 6 passes, it has the values of the lines, and is good
+  pub read_ok : {l : carried.List} → Ok l ≡ line_read text → (line_check text ≡ good) × (l ≡ list_of (line_values text))
+  read_ok {l} e = go (line_check text) refl e
     where
-      go : (x : ListCheck) → k ≡ x → SomeGood l
-      go (Ok u) g = record { area = text; good = check_is g }
-      go (Err p) g =
-          let m : l ≡ empty_list = q ∙ ap (λ x. list_given x (line_values text)) (sym e ∙ g) in
-          record { area = []; good = ap (list_check []) m }
+      go : (k : ListCheck) → line_check text ≡ k → Ok l ≡ list_read k (line_values text) → (line_check text ≡ good) × (l ≡ list_of (line_values text))
+      go (Ok u) g f = (g, cc)
+      go (Err p) g f = let z : ⊥ = cc in absurd z
 
-  pub list_few : l.count ≤ most_elements
-  list_few = (check_good (within_limits list_good.area) l list_good.good).1
+  pub read_err : {e : BadElement} → Err e ≡ line_read text → line_check text ≡ Err e
+  read_err {e} f = go (line_check text) refl f
+    where
+      go : (k : ListCheck) → line_check text ≡ k → Err e ≡ list_read k (line_values text) → line_check text ≡ Err e
+      go (Ok u) g h = let z : ⊥ = cc in absurd z
+      go (Err p) g h = let z : p ≡ e = cc in g ∙ ap Err z
 
-  pub text_listed : (ks : List ℕ) (ms : List ℤ) (ds : List ℕ) → length ks ≡ 64 → Apart (values l) (take l.count ks) (take l.count ms) (take l.count ds)
-      → ListedIf k text (line_values text) (take l.count ks) (take l.count ms) (take l.count ds)
-  text_listed ks ms ds long a =
-      record {
-        if_good = λ g.
-            let m = length-take-le l.count ks (omega (arith, list_few)) in
-            record {
-              apart = rw (values_are g) at a;
-              good = rw (values_are g) at (check_good (within_limits text) l (check_is g)).0;
-              few = omega (arith, list_few, m);
-            };
-      }
+  module _ {l : carried.List} (e : Ok l ≡ line_read text) where
+    read_good : list_check text l ≡ good
+    read_good = let r = read_ok e in ap (list_check text) r.1 ∙ text_list_check text ∙ r.0
+
+    pub read_few : l.count ≤ most_elements
+    read_few = (check_good (within_limits text) l read_good).1
+
+    pub read_within : {es : List Element} → es ≡ take l.count l.elements → All (λ x. within_limits text (value_of x) ≡ true) es
+    read_within {es} is = good_all (within_limits text) l es read_good is
+
+    pub read_values : {es : List Element} → es ≡ take l.count l.elements → map value_of es ≡ line_values text
+    unfolding values
+    read_values {es} is = ap (map value_of) is ∙ sym (take-map value_of l.count l.elements) ∙ ap values (read_ok e).1 ∙ values_list (line_values text)
+
+-- what was written for its elements
+pub as_text : {R : ℕ} (format text : List ℕ) {before : List ℕ} {a : Answer} {after : List ℕ} (x : Result Listed BadElement) → listed_from text x
+    → WroteText R format x before a after → Wrote R text (line_values text) before (writing_from R format text (length before)) a after
+as_text format text (Ok x) p w = rw (p.0, ← p.1, ← p.2) w
+as_text format text (Err e) p w = rw p (w text (line_values text))
 
 -- ---- an accepted writing
 

@@ -13,8 +13,7 @@ use crate::width::read_width;
 use crate::writing::write_list_text;
 use crate::{INPUT, OUTPUT, RECORD_BUFFER};
 use list_text::lines::split_line;
-use sheet_walk::refusals::{number_of, place_of};
-use sheet_walk::{Answer, Refusal};
+use sheet_walk::{Counts, Refusal};
 
 // Puts a line from the offset `at` on, and answers the offset after it.
 fn put_line(output: &mut [u8; OUTPUT], at: usize, line: &Line) -> usize
@@ -33,7 +32,7 @@ fn put_line(output: &mut [u8; OUTPUT], at: usize, line: &Line) -> usize
 fn refusal_line(refusal: Refusal) -> Line
     ensures { result ≡ refused_line (refusal_number refusal) (refusal_place refusal) }
 {
-    Line::refused(number_of(refusal), place_of(refusal) as u64)
+    Line::refused(refusal.number(), refusal.place() as u64)
 }
 
 // Puts the output for an input, any bytes, from the output buffer's first byte on, and answers its length. The records are
@@ -51,11 +50,13 @@ pub fn sheet(input: &[u8], records: &mut [u8; RECORD_BUFFER], output: &mut [u8; 
         return put_line(output, 0, &refusal_line(Refusal::RecordWidth));
     };
     match write_list_text(width, format, list, records) {
-        Answer::Refused(refusal) => put_line(output, 0, &refusal_line(refusal)),
-        Answer::Accepted {
-            records: count,
-            starred,
-        } => {
+        Err(refusal) => put_line(output, 0, &refusal_line(refusal)),
+        Ok(
+            Counts {
+                records: count,
+                starred,
+            },
+        ) => {
             let at = put_records(output, width, count, records);
             put_line(output, at, &Line::counts(count as u64, starred as u64))
         }

@@ -15,11 +15,12 @@ use Rattle.sheet_walk.specs.declared.Refusal.{Refusal}
 use Rattle.sheet_walk.specs.declared.Records.{Records}
 use Rattle.sheet_walk.specs.declared.State.{State}
 use Rattle.sheet_walk.specs.Refusals.{refusal_place}
+use Rattle.sheet_walk.specs.Given.{fields_of}
 use Rattle.sheet_walk.specs.Steps.{What, element, literal, Placement, Step, moves, covers, refused, ends, start, step, end_step}
 use Rattle.sheet_walk.specs.Walk.{Sheet, sheet, Trace, put, done, stopped, after, pass, returns, at_end, walk}
 use Rattle.sheet_walk.specs.Columns.{In, here, there}
 use Rattle.sheet_walk.specs.Promises.{StopsWith, Comes, RefusedThere, RefusedBecause, EndsThere, CoversThere, ItemRefused, EndRefused, LiteralsWide, Walkable, EndsWith, Inside, Suited, place_of, elements_put, numbers_from, CoversInside, CoversReached, ElementsSuited, PutsEach}
-use Rattle.sheet_walk.proofs.StepLaws.{fields_of, fields_in, Moved, CoveredBy, Covered, Does, step_does, AtEnd, end_does}
+use Rattle.sheet_walk.proofs.StepLaws.{fields_in, Moved, CoveredBy, Covered, Does, step_does, AtEnd, end_does}
 
 -- ---- the sheet of an accepted format
 

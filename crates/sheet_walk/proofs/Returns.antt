@@ -8,10 +8,11 @@ use borrow.Author.Tests.{le-leb}
 use lib.ListN.{length}
 use Rattle.format_items.specs.Met.{Met}
 use Rattle.sheet_walk.specs.declared.State.{State}
+use Rattle.sheet_walk.specs.Given.{fields_of}
 use Rattle.sheet_walk.specs.Steps.{Step, moves, covers, refused, ends, step, end_step}
 use Rattle.sheet_walk.specs.Walk.{Sheet, Trace, put, after, pass, returns, at_end}
 use Rattle.sheet_walk.specs.Promises.{EndIs, ReturnTakes}
-use Rattle.sheet_walk.proofs.StepLaws.{fields_of, fields_in, Does, step_does, AtEnd, end_does}
+use Rattle.sheet_walk.proofs.StepLaws.{fields_in, Does, step_does, AtEnd, end_does}
 
 module _ (h : Sheet) where
   -- two ways on that agree wherever the walk may come to

@@ -16,6 +16,7 @@ use Rattle.list_elements.specs.Elements.{Kind, integer}
 use Rattle.sheet_walk.specs.declared.Refusal.TheVariants as refusal
 use Rattle.sheet_walk.specs.declared.Records.{Records}
 use Rattle.sheet_walk.specs.declared.State.{State}
+use Rattle.sheet_walk.specs.Given.{fields_of}
 use Rattle.sheet_walk.specs.Steps.{What, element, literal, Placement, Step, moves, covers, refused, ends, state, suits, field_width, cover_step, field_step, next_record, step, has_field, end_step}
 use Rattle.sheet_walk.specs.Promises.{ItemRefused, EndRefused, Suited}
 
@@ -25,14 +26,6 @@ by_test P true x y f g = f refl
 by_test P false x y f g = g refl
 
 -- ---- the elements taken
-
--- the elements that an item takes where the walk goes on: 1 for a field
-abbrev pub fields_of : Met → ℕ
-fields_of (Met.field f) = 1
-fields_of (Met.X n) = 0
-fields_of (Met.T n) = 0
-fields_of Met.slash = 0
-fields_of (Met.literal cs) = 0
 
 -- those of a list of items
 unfoldable pub fields_in : List Met → ℕ

@@ -1,8 +1,9 @@
-pub mod Refusals
-pub mod Answers
 pub mod Steps
 pub mod Walk
 pub mod Columns
 pub mod Laid
-pub mod Turns
+pub mod Refusals
+pub mod Answers
 pub mod Promises
+pub mod Given
+pub mod Followed

@@ -1,16 +1,15 @@
-// The walk over the items met: one step of it, for writing and reading.
+// The walk over the items met, for writing and reading: what covers columns, in order, and how it ends.
 #![tactic(auto)]
 
-pub mod fields;
-pub mod items;
 pub mod refusals;
-pub mod turns;
+pub mod walk;
 pub mod width;
 
 use format_items::FormatRefusal;
+use format_words::Word;
 
 // A sheet refused: rows of document 01's 'Checks by place'.
-#[derive(Clone, Copy)]
+#[derive(Clone, Copy, PartialEq, Eq, Debug)]
 pub enum Refusal {
     RecordWidth,
     Format(FormatRefusal),
@@ -29,7 +28,7 @@ pub enum Refusal {
 pub const WIDEST_RECORD: usize = 255;
 
 // The records that a buffer holds: their width and their number.
-#[derive(Clone, Copy)]
+#[derive(Clone, Copy, PartialEq, Eq, Debug)]
 pub struct Records {
     pub width: usize,
     pub count: usize,
@@ -43,63 +42,19 @@ pub struct State {
     pub taken: usize,
 }
 
-// What one item does: the walk goes on from another state, after columns were covered or not, is refused, or ends.
+// Columns covered: where the first one stands in the records, and how many they are; the item that covers them, and how many
+// elements were taken before it.
 #[derive(Clone, Copy)]
-pub enum Step {
-    Moves(State),
-    Covers {
-        at: usize,
-        width: usize,
-        next: State,
-    },
-    Refused(Refusal),
-    Ends,
+pub struct Cover {
+    pub at: usize,
+    pub width: usize,
+    pub word: Word,
+    pub place: usize,
 }
 
-// The walk between two items: the index of the next one, and the state.
-#[derive(Clone, Copy)]
-pub struct Cursor {
-    pub index: usize,
-    pub state: State,
-}
-
-// One turn of the walk: an item, or the end of the format.
-#[derive(Clone, Copy)]
-pub enum Turn {
-    Goes(Cursor),
-    Covers {
-        at: usize,
-        width: usize,
-        next: Cursor,
-    },
-    Refused(Refusal),
-    Ends {
-        records: usize,
-    },
-}
-
-// The columns that a turn covers, or that it moves on, and the walk after it; or neither.
-#[derive(Clone, Copy)]
-pub enum Cover {
-    Columns {
-        at: usize,
-        width: usize,
-        next: Cursor,
-    },
-    Moves(Cursor),
-    Nothing,
-}
-
-// How a walk ends once the values of its fields were checked as well.
-#[derive(Clone, Copy)]
-pub enum Ending {
-    Accepted { records: usize },
-    Refused(Refusal),
-}
-
-// What writing and reading answer: the records reached and the starred fields, 0 in reading; or a refusal.
-#[derive(Clone, Copy)]
-pub enum Answer {
-    Accepted { records: usize, starred: usize },
-    Refused(Refusal),
+// What an accepted writing or reading counts: the records reached and the starred fields, 0 in reading.
+#[derive(Clone, Copy, PartialEq, Eq, Debug)]
+pub struct Counts {
+    pub records: usize,
+    pub starred: usize,
 }

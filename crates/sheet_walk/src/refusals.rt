@@ -1,43 +1,62 @@
 // Refusals as document 01 numbers and places them.
 ghost use Rattle.std.specs.Prelude.{◌≡◌};
-ghost use Rattle.sheet_walk.specs.Refusals.{refusal_number, refusal_place};
+ghost use Rattle.sheet_walk.specs.declared.Refusal.TheVariants.{Format, Element};
 
 use crate::Refusal;
+use format_items::FormatRefusal;
+use list_elements::BadElement;
 
-// The number of a refusal.
-pub fn number_of(refusal: Refusal) -> u64
-    ensures { result ≡ refusal_number refusal }
-{
-    match refusal {
-        Refusal::RecordWidth => 1,
-        Refusal::Format(why) => why.number(),
-        Refusal::Element { place: _ } => 6,
-        Refusal::TextArea => 13,
-        Refusal::NoRecord => 9,
-        Refusal::NextRecord { place: _ } => 9,
-        Refusal::NoField { place: _ } => 10,
-        Refusal::Kind { place: _ } => 7,
-        Refusal::Column { place: _ } => 8,
-        Refusal::TooLarge { place: _ } => 11,
-        Refusal::FieldText { place: _ } => 12,
+impl Refusal {
+    ghost use Rattle.sheet_walk.specs.Refusals.{refusal_number, refusal_place};
+
+    // The number of a refusal.
+    pub fn number(self) -> u64
+        ensures { result ≡ refusal_number self }
+    {
+        match self {
+            Refusal::RecordWidth => 1,
+            Refusal::Format(why) => why.number(),
+            Refusal::Element { place: _ } => 6,
+            Refusal::TextArea => 13,
+            Refusal::NoRecord | Refusal::NextRecord { place: _ } => 9,
+            Refusal::NoField { place: _ } => 10,
+            Refusal::Kind { place: _ } => 7,
+            Refusal::Column { place: _ } => 8,
+            Refusal::TooLarge { place: _ } => 11,
+            Refusal::FieldText { place: _ } => 12,
+        }
+    }
+
+    // Its place.
+    pub fn place(self) -> usize
+        ensures { result ≡ refusal_place self }
+    {
+        match self {
+            Refusal::RecordWidth | Refusal::TextArea | Refusal::NoRecord => 0,
+            Refusal::Format(why) => why.place(),
+            Refusal::Element { place }
+            | Refusal::NextRecord { place }
+            | Refusal::NoField { place }
+            | Refusal::Kind { place }
+            | Refusal::Column { place }
+            | Refusal::TooLarge { place }
+            | Refusal::FieldText { place } => place,
+        }
     }
 }
 
-// Its place.
-pub fn place_of(refusal: Refusal) -> usize
-    ensures { result ≡ refusal_place refusal }
-{
-    match refusal {
-        Refusal::RecordWidth => 0,
-        Refusal::Format(why) => why.place(),
-        Refusal::Element { place } => place,
-        Refusal::TextArea => 0,
-        Refusal::NoRecord => 0,
-        Refusal::NextRecord { place } => place,
-        Refusal::NoField { place } => place,
-        Refusal::Kind { place } => place,
-        Refusal::Column { place } => place,
-        Refusal::TooLarge { place } => place,
-        Refusal::FieldText { place } => place,
+impl From<FormatRefusal> for Refusal {
+    ghost from_gives = { λ why refusal. refusal ≡ Format why };
+
+    fn from(why: FormatRefusal) -> Refusal {
+        Refusal::Format(why)
+    }
+}
+
+impl From<BadElement> for Refusal {
+    ghost from_gives = { λ bad refusal. refusal ≡ Element bad.place };
+
+    fn from(bad: BadElement) -> Refusal {
+        Refusal::Element { place: bad.place }
     }
 }

@@ -3,40 +3,30 @@
 use mathlib.Core.Path.{◌≡◌, refl, sym, ap, ◌∙◌}
 use mathlib.Core.List.{List}
 use Prim.Native.Nat.{ℕ}
-use native.Mathlib.Omega.{arith}
-use lib.IntN.{ℤ}
-use lib.ListN.{length, take}
-use lib.Seq.{length-take-le}
-use Rattle.list_elements.specs.Elements.{values}
-use Rattle.list_elements.specs.Limits.{ListCheck, good, within_limits, list_check}
-use Rattle.list_elements.specs.Apart.{Apart, usable_count}
-use Rattle.list_elements.proofs.ApartLaws.{check_good}
+use lib.ListN.{length}
+use Rattle.std.specs.List.{take-map}
+use Rattle.std.specs.Prelude.{Result, Ok, Err}
+use Rattle.list_elements.specs.Elements.{value_of, values}
+use Rattle.list_elements.specs.Limits.{list_check}
+use Rattle.list_elements.specs.Checked.{listed_as}
+use Rattle.list_elements.specs.declared.BadElement.{BadElement}
+use Rattle.list_elements.specs.declared.listed.Listed.{Listed}
 use Rattle.list_elements.specs.declared.Value.{Value}
 use Rattle.list_elements.specs.declared.List as carried
-use Rattle.sheet_walk.specs.Answers.{answer_number, answer_place, answer_records, answer_starred}
+use Rattle.sheet_walk.specs.Answers.{Answer, answer_number, answer_place, answer_records, answer_starred}
 use Rattle.sheet_write.specs.Writing.{Writing, accepts, refuses, writing_of, answer_of, buffer_of, writing_number, writing_place, writing_records, writing_starred}
-use Rattle.sheet_write.specs.Parts.{ListedIf, Wrote}
-use Rattle.sheet_walk.specs.declared.Answer.{Answer}
+use Rattle.write_passes.specs.Passes.{values_in}
+use Rattle.sheet_write.specs.Parts.{Wrote, WroteText}
 
--- ---- the list taken apart
+-- ---- the list, as it is carried
 
-module _ (area : List ℕ) (l : carried.List) (check : ListCheck) (is : check ≡ list_check area l) where
-  module _ (kinds : List ℕ) (amounts : List ℤ) (details : List ℕ) (long : length kinds ≡ 64)
-      (apart : check ≡ good → Apart (values l) (take l.count kinds) (take l.count amounts) (take l.count details)) where
-    pub listed_if : {n : ℕ} → n ≡ usable_count check l.count → ListedIf check area (values l) (take n kinds) (take n amounts) (take n details)
-    listed_if {n} e =
-        record {
-          if_good = λ g.
-              let c : n ≡ l.count = e ∙ ap (λ k. usable_count k l.count) g in
-              let f = check_good (within_limits area) l (sym is ∙ g) in
-              let m : length (take l.count kinds) ≡ l.count = length-take-le l.count kinds (omega (arith, f.1)) in
-              rw c (record { apart = apart g; good = f.0; few = omega (arith, f.1, m) });
-        }
-
--- the check, as the definition has it
-pub checked_so : {R : ℕ} (format : List ℕ) {area : List ℕ} {vs : List Value} {before : List ℕ} {k check : ListCheck} {r : Answer} {after : List ℕ} → k ≡ check
-    → Wrote R area vs before (writing_of R format k vs (length before)) r after → Wrote R area vs before (writing_of R format check vs (length before)) r after
-checked_so format e w = rw (← e) w
+pub as_carried : {R : ℕ} (format area : List ℕ) (l : carried.List) {before : List ℕ} {a : Answer} {after : List ℕ} (x : Result Listed BadElement) → listed_as area l x
+    → WroteText R format x before a after → Wrote R area (values l) before (writing_of R format (list_check area l) (values l) (length before)) a after
+unfolding values
+as_carried {R} format area l {before} {a} {after} (Ok x) p w =
+    let v : values_in x ≡ values l = rw p.1 (sym (take-map value_of l.count l.elements)) in
+    rw (p.0, ← v, ← p.2) w
+as_carried format area l (Err e) p w = rw p (w area (values l))
 
 -- ---- the answer's number, place, records and starred
 
@@ -57,21 +47,21 @@ starred_of_lem vs (accepts t n) = refl
 starred_of_lem vs (refuses why) = refl
 
 -- all that a call promises whose writing is w
-module _ {R : ℕ} {area : List ℕ} {vs : List Value} {before : List ℕ} {w : Writing} {r : Answer} {after : List ℕ} (did : Wrote R area vs before w r after) where
-  pub promised : (r ≡ answer_of vs w)
-      × ((after ≡ buffer_of R area vs before w)
-      × ((answer_number r ≡ writing_number w)
-      × ((answer_place r ≡ writing_place w) × ((answer_records r ≡ writing_records w) × (answer_starred r ≡ writing_starred vs w)))))
-  promised = (
-    did.answers,
-    (
-      did.bytes,
-      (
-        ap answer_number did.answers ∙ number_of vs w,
-        (
-          ap answer_place did.answers ∙ place_of vs w,
-          (ap answer_records did.answers ∙ records_of vs w, ap answer_starred did.answers ∙ starred_of_lem vs w),
-        ),
-      ),
-    ),
-  )
+pub record Promised (R : ℕ) (area : List ℕ) (vs : List Value) (before : List ℕ) (w : Writing) (r : Answer) (after : List ℕ) : Type 0 where
+  pub answers : r ≡ answer_of vs w
+  pub bytes : after ≡ buffer_of R area vs before w
+  pub number : answer_number r ≡ writing_number w
+  pub place : answer_place r ≡ writing_place w
+  pub records : answer_records r ≡ writing_records w
+  pub starred : answer_starred r ≡ writing_starred vs w
+
+pub promised : {R : ℕ} {area : List ℕ} {vs : List Value} {before : List ℕ} {w : Writing} {r : Answer} {after : List ℕ} → Wrote R area vs before w r after → Promised R area vs before w r after
+promised {vs = vs} {w = w} did =
+    record {
+      answers = did.answers;
+      bytes = did.bytes;
+      number = ap answer_number did.answers ∙ number_of vs w;
+      place = ap answer_place did.answers ∙ place_of vs w;
+      records = ap answer_records did.answers ∙ records_of vs w;
+      starred = ap answer_starred did.answers ∙ starred_of_lem vs w;
+    }

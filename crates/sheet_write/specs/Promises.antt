@@ -24,9 +24,8 @@ use Rattle.sheet_walk.specs.declared.Refusal.{Refusal}
 use Rattle.sheet_rows.specs.Rows.{records_in}
 use Rattle.sheet_rows.specs.Promises.{RowsPassed, RowAnswers, BadElement}
 use Rattle.write_passes.specs.Placed.{value_at, characters}
-use Rattle.sheet_walk.specs.Answers.{answer_number, answer_place, answer_records, answer_starred}
+use Rattle.sheet_walk.specs.Answers.{Answer, answer_number, answer_place, answer_records, answer_starred}
 use Rattle.sheet_write.specs.Writing.{Writing, accepts, refuses, writing, write_answer, write_buffer}
-use Rattle.sheet_walk.specs.declared.Answer.{Answer}
 
 -- ---- what a call is given
 

@@ -1,20 +1,19 @@
 -- Document 01, 'The walk' and 'Checks by place': writing. The outcome and the buffer afterwards, for every record width R,
 -- format, list, text area and buffer.
 -- Assumes nothing.
-use Rattle.std.specs.Prelude.{List, map, ℕ, ◌/◌, length}
+use Rattle.std.specs.Prelude.{List, map, ℕ, ◌/◌, length, Ok, Err}
 use Rattle.format_grammar.specs.Check.{outcome}
 use Rattle.list_elements.specs.Elements.{kind_of, values}
 use Rattle.list_elements.specs.Limits.{ListCheck, list_check}
 use Rattle.list_elements.specs.declared.Value.{Value}
 use Rattle.list_elements.specs.declared.List as carried
+use Rattle.sheet_walk.specs.Answers.{Answer}
 use Rattle.sheet_walk.specs.Refusals.{refusal_number, refusal_place}
 use Rattle.sheet_walk.specs.Walk.{Trace}
 use Rattle.sheet_walk.specs.Laid.{written}
 use Rattle.sheet_walk.specs.declared.Refusal.{Refusal}
 use Rattle.sheet_rows.specs.Rows.{format_row, element_row, rows_before, after_rows, records_in, walk_under}
 use Rattle.write_passes.specs.Placed.{characters, starred_in, Judged, accepted, refused, judged}
-use Rattle.sheet_walk.specs.declared.Answer.{Answer}
-use Rattle.sheet_walk.specs.declared.Answer.TheVariants as answer
 
 -- accepted, with the walk and the number of records reached, or refused
 pub data Writing : Type 0 where
@@ -43,8 +42,8 @@ writing R format l area B = writing_of R format (list_check area l) (values l) B
 
 -- 'The result carries the number of records and the number of starred fields'
 abbrev pub answer_of : List Value → Writing → Answer
-answer_of vs (accepts t n) = answer.Accepted n (starred_in vs t)
-answer_of vs (refuses why) = answer.Refused why
+answer_of vs (accepts t n) = Ok (record { records = n; starred = starred_in vs t })
+answer_of vs (refuses why) = Err why
 
 -- the buffer afterwards: the records written; refused, 'every lent byte is then as before the call'
 abbrev pub buffer_of : ℕ → List ℕ → List Value → List ℕ → Writing → List ℕ

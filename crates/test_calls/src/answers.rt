@@ -1,17 +1,13 @@
 // Answers as numbers, by which C gets them.
 use format_check::FormatRefusal;
 use list_elements::{BadElement, List};
-use sheet_walk::Answer;
+use sheet_walk::{Counts, Refusal};
 
 // Number, 0 where accepted; place, records, starred.
-pub fn answer_numbers(answer: Answer) -> [usize; 4] {
+pub fn answer_numbers(answer: Result<Counts, Refusal>) -> [usize; 4] {
     match answer {
-        Answer::Accepted { records, starred } => [0, 0, records, starred],
-        Answer::Refused(refusal) => {
-            let number = sheet_walk::refusals::number_of(refusal);
-            let place = sheet_walk::refusals::place_of(refusal);
-            [number as usize, place, 0, 0]
-        }
+        Ok(counts) => [0, 0, counts.records, counts.starred],
+        Err(refusal) => [refusal.number() as usize, refusal.place(), 0, 0],
     }
 }
 

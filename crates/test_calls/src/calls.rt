@@ -3,7 +3,9 @@ use crate::answers::{answer_numbers, check_numbers};
 use crate::lists::{list_from, put_list};
 use crate::numbers::put;
 use format_check::check::check;
+use list_elements::List;
 use sheet_read::read::read;
+use sheet_walk::Counts;
 use sheet_write::write::write;
 
 // Writes a list; number (0 accepted), place, records and starred go into `answer`.
@@ -38,9 +40,14 @@ pub fn test_read(
 ) {
     let wanted = list_from(shapes, numbers, count);
     let given = read(width, format, wanted, area, records);
-    put_list(&given.list, given_shapes, given_numbers);
-    let [number, place, records, starred] = answer_numbers(given.answer);
-    put(&[number, place, records, starred, given.list.count], answer);
+    let list = given.map_or(List::empty(), |sheet| sheet.list);
+    put_list(&list, given_shapes, given_numbers);
+    let counts = given.map(|sheet| Counts {
+        records: sheet.records,
+        starred: 0,
+    });
+    let [number, place, records, starred] = answer_numbers(counts);
+    put(&[number, place, records, starred, list.count], answer);
 }
 
 // Checks a format; number and place go into `answer`.

@@ -1,5 +1,4 @@
-pub mod ValueLaws
-pub mod PutLaws
 pub mod PlacedLaws
 pub mod CheckLaws
 pub mod LayLaws
+pub mod PutLaws

@@ -1,85 +1,32 @@
 // The laying pass, for a walk that was accepted.
-ghost use Rattle.std.specs.Prelude.{◌≡◌, List, ◌*◌, ◌≤◌, length};
-ghost use Rattle.list_elements.specs.declared.Value.{Value};
+ghost use Rattle.std.specs.Prelude.{◌≡◌, ◌*◌, ◌≤◌, length};
 ghost use Rattle.sheet_walk.specs.Walk.{walk};
 ghost use Rattle.sheet_walk.specs.Laid.{laid};
-ghost use Rattle.sheet_walk.specs.Turns.{sheet_of};
+ghost use Rattle.sheet_walk.specs.Given.{given_sheet, Roomy};
 ghost use Rattle.write_passes.specs.Placed.{characters, starred_in};
-ghost use Rattle.write_passes.specs.Passes.{SomePassed, Passed};
+ghost use Rattle.write_passes.specs.Passes.{values_in, Accepts};
 
 use crate::fields::put;
-use sheet_walk::items::has_field;
-use sheet_walk::turns::{advance, cover_at, first_cursor};
-use sheet_walk::{Cover, Records, Turn};
+use format_words::run::Run;
+use list_elements::listed::Listed;
+use sheet_walk::Records;
+use sheet_walk::walk::Walk;
 
 // Puts what the walk covers, in order; how many fields are starred.
-pub fn lay_pass(
-    dst: &mut [u8],
-    words: &[u64],
-    back: usize,
-    chars: &[u8],
-    area: &[u8],
-    kinds: &[u64],
-    amounts: &[i64],
-    details: &[usize],
-    rs: Records,
-) -> usize
-    requires { (rs.count * rs.width ≤ length dst.old) × SomePassed chars.now area.now words.now back kinds.now amounts.now details.now rs }
-    ensures stars { (vs : List Value) → Passed chars.now area.now vs words.now back kinds.now amounts.now details.now rs → result ≡ starred_in vs (walk (sheet_of chars.now words.now back kinds.now rs)) }
-    ensures bytes { (vs : List Value) → Passed chars.now area.now vs words.now back kinds.now amounts.now details.now rs → dst.new ≡ laid rs.width (characters area.now vs) (walk (sheet_of chars.now words.now back kinds.now rs)) dst.old }
+pub fn lay_pass(buffer: &mut [u8], run: Run<'_>, list: Listed<'_>, records: Records) -> usize
+    requires roomy { Roomy records }
+    requires room { records.count * records.width ≤ length buffer.old }
+    requires accepts { Accepts (values_in list) (given_sheet run list.elements.now records) }
+    ensures stars { result ≡ starred_in (values_in list.entry) (walk (given_sheet run.entry list.entry.elements.now records)) }
+    ensures bytes { buffer.new ≡ laid records.width (characters list.entry.area.now (values_in list.entry)) (walk (given_sheet run.entry list.entry.elements.now records)) buffer.old }
 {
-    let part = has_field(words, back);
     let mut starred: usize = 0;
-    let mut c = first_cursor();
-    loop {
-        let cover = cover_at(words, back, part, kinds, rs, c);
-        match cover {
-            Cover::Columns { at, width, next } => {
-                let index = c.index;
-                let s = c.state;
-                if put(
-                    dst,
-                    at,
-                    width,
-                    words[index],
-                    s.taken,
-                    chars,
-                    area,
-                    kinds,
-                    amounts,
-                    details,
-                ) {
-                    starred += 1;
-                    c = next;
-                } else {
-                    c = next;
-                }
-            }
-            Cover::Moves(next) => {
-                c = next;
-            }
-            Cover::Nothing => {
-                let turn = advance(words, back, part, kinds, rs, c);
-                match turn {
-                    Turn::Goes(next) => {
-                        c = next;
-                    }
-                    // Never: `cover_at` answers every turn that covers.
-                    Turn::Covers {
-                        at: _,
-                        width: _,
-                        next: _,
-                    } => {
-                        return starred;
-                    }
-                    Turn::Refused(_) => {
-                        return starred;
-                    }
-                    Turn::Ends { records: _ } => {
-                        return starred;
-                    }
-                }
-            }
+    let mut walk = Walk::new(run, list.elements, records);
+    while let Ok(Some(cover)) = walk.next() {
+        let part = &mut buffer[cover.at..cover.at + cover.width];
+        if put(part, cover, run.chars, list) {
+            starred += 1;
         }
     }
+    starred
 }

@@ -19,4 +19,4 @@ returns-then-size-gt-LARGEST_SIZE c =
 pub returns : goal.returns
 returns c =
     let i = c.in_ok-end.ensures in
-    row_none _ c.requires.0 i c.in_default.is _ (c.size_of-size.ensures.sized _ _ i.read i.holds) c.if-size-gt-LARGEST_SIZE.false (omega (arith, c.requires.2, c.read_format.auto.chars))
+    row_none _ c.requires.0 i c.in_default.is _ (c.size_of-size.ensures.sized _ _ i.read i.holds) c.if-size-gt-LARGEST_SIZE.false (omega (arith, c.requires.1, c.read_format.auto.entries)) (omega (arith, c.requires.2, c.read_format.auto.chars))

@@ -1,3 +1,4 @@
+use mathlib.Core.Path.{refl}
 use Rattle.format_read.proofs.SingleSteps.{passed_on}
 use Rattle.format_read.proofs.TakeSteps.{took_literal, literal_wrong}
 use Rattle.format_read.proofs.heads.read_literal_item.Goals as goal
@@ -10,4 +11,4 @@ returns-in_err-literal c =
 pub returns : goal.returns
 returns c =
     let begun = c.requires.at_in_bounds in
-    λ l. rw c.with_entry.ensures (took_literal c.requires.room.0 c.requires.room.1 c.in_ok-literal.ensures begun.0 begun.1 begun.2 l _ c.put_entry.ensures)
+    λ l. rw c.with_entry.ensures (took_literal c.requires.room.0 c.requires.room.1 c.in_ok-literal.ensures begun.0 begun.1 begun.2 l _ refl)

@@ -1,4 +1,4 @@
-use mathlib.Core.Path.{◌≡◌, ◌∙◌}
+use mathlib.Core.Path.{◌≡◌, refl, ◌∙◌}
 use native.Mathlib.Omega.{arith}
 use Rattle.std.specs.Prelude.{Some, slice_get}
 use Rattle.std.proofs.lemmas.Grind.{common_steps}
@@ -8,7 +8,7 @@ use Rattle.format_read.proofs.items.+read_item_read_items.Goals as goal
 
 pub read_item-returns-in_ok-after-in-Group : goal.read_item-returns-in_ok-after-in-Group
 read_item-returns-in_ok-after-in-Group t c =
-    took_group c.requires.0 (rw c.in-Group.is at c.in_ok-after.ensures) c.in_ok-after-in-Group.ensures (c.read_items.auto.entries ∙ c.read_head.auto.entries) _ c.put_group.ensures
+    took_group c.requires.0 (rw c.in-Group.is at c.in_ok-after.ensures) c.in_ok-after-in-Group.ensures (c.read_items.auto.entries ∙ c.read_head.auto.entries) _ refl
 
 pub read_items-loop-after-init : goal.read_items-loop-after-init
 read_items-loop-after-init t c = so_far_none c.requires.0

@@ -1,30 +1,17 @@
 use mathlib.Core.Path.{refl, sym, ◌∙◌}
 use native.Mathlib.Omega.{arith}
 use Rattle.std.specs.Prelude.{Ok}
-use Rattle.format_items.specs.Items.{Repeat}
 use Rattle.format_grammar.specs.Reading.{Use}
 use Rattle.format_read.specs.Steps.{number_at}
-use Rattle.format_read.proofs.SingleSteps.{times_at, passed_on, absent, ends-I, ends-L, ends-T}
-use Rattle.format_read.proofs.BegunSteps.{begun_read, begun_stuck, begun_other, slash_read, X-read, T-read, T-after_digits}
+use Rattle.format_read.proofs.SingleSteps.{times_at, passed_on, absent, ends-I, ends-L}
+use Rattle.format_read.proofs.BegunSteps.{begun_read, begun_stuck, begun_other, slash_read, X-read, letter_missing, letter_read, T-after_digits, T-missing, T-read}
 use Rattle.format_read.proofs.singles.read_single.Goals as goal
-
-pub returns-in-73 : goal.returns-in-73
-returns-in-73 c =
-    let k = number_at c.args.p.at c.args.m.value in
-    begun_read c.requires.number_found c.requires.at_in_bounds.0 (Use.width_i k) (λ l xs q. rw c.in-73.is) _ _ c.outside_of-outside.ensures c.read_one.result
-    (c.read_one.ensures (Use.width_i k) k (times_at c.args.p.at c.args.m.value ∙ sym c.unwrap_or-repeat.ensures) (ends-I k))
 
 pub returns-in-70 : goal.returns-in-70
 returns-in-70 c =
     let k = number_at c.args.p.at c.args.m.value in
     begun_read c.requires.number_found c.requires.at_in_bounds.0 (Use.width_f k) (λ l xs q. rw c.in-70.is) _ _ c.outside_of-outside.ensures c.read_f.result
     (c.read_f.ensures k (times_at c.args.p.at c.args.m.value ∙ sym c.unwrap_or-repeat.ensures))
-
-pub returns-in-76 : goal.returns-in-76
-returns-in-76 c =
-    let k = number_at c.args.p.at c.args.m.value in
-    begun_read c.requires.number_found c.requires.at_in_bounds.0 (Use.width_l k) (λ l xs q. rw c.in-76.is) _ _ c.outside_of-outside.ensures c.read_one-in-76.result
-    (c.read_one-in-76.ensures (Use.width_l k) k (times_at c.args.p.at c.args.m.value ∙ sym c.unwrap_or-repeat.ensures) (ends-L k))
 
 pub returns-in-65 : goal.returns-in-65
 returns-in-65 c =
@@ -35,15 +22,10 @@ returns-in-65 c =
 pub returns-then-is_some : goal.returns-then-is_some
 returns-then-is_some c = T-after_digits c.requires.number_found c.requires.at_in_bounds.0 c.in-84.is (sym c.if-is_some.ensures)
 
-pub returns-else-is_some : goal.returns-else-is_some
-returns-else-is_some c =
-    T-read c.requires.number_found c.requires.at_in_bounds.0 c.in-84.is (sym c.if-is_some.ensures) _ _ c.outside_of-outside.ensures c.read_one-in-84.result
-    (c.read_one-in-84.ensures Use.column Repeat.absent refl ends-T)
-
 pub returns-in_err-count-in-88 : goal.returns-in_err-count-in-88
 returns-in_err-count-in-88 c =
     let a = absent c.args.m.value c.in_err-count-in-88.ensures.value in
-    rw (passed_on c.from_residual.ensures.1, a.1)
+    rw (passed_on c.from_residual-in_err-count-in-88.ensures.1, a.1)
     (begun_stuck (rw a.0 at c.requires.number_found) c.requires.at_in_bounds.0 (λ l xs q. rw c.in-88.is))
 
 pub returns-in_ok-count-in-88 : goal.returns-in_ok-count-in-88
@@ -56,4 +38,40 @@ returns-in-47 c = slash_read c.requires.number_found c.requires.at_in_bounds.0 c
 
 pub returns-in_default : goal.returns-in_default
 returns-in_default c =
-    begun_other c.requires.number_found c.requires.at_in_bounds.0 c.requires.at_in_bounds.2 (λ e. omega arith) (λ e. omega arith) (λ e. omega arith) (λ e. omega arith) (λ e. omega arith) (λ e. omega arith) (λ e. omega arith)
+    begun_other c.requires.number_found c.requires.at_in_bounds.0 c.requires.at_in_bounds.1 (λ e. omega arith) (λ e. omega arith) (λ e. omega arith) (λ e. omega arith) (λ e. omega arith) (λ e. omega arith) (λ e. omega arith)
+
+pub returns-in_err-width-in-73 : goal.returns-in_err-width-in-73
+returns-in_err-width-in-73 c =
+    let k = number_at c.args.p.at c.args.m.value in
+    rw (passed_on c.from_residual.ensures.1)
+    (letter_missing c.requires.number_found c.requires.at_in_bounds.0 refl (ends-I k) (λ l xs q. rw c.in-73.is) c.in_err-width-in-73.ensures c.args.p.outside)
+
+pub returns-in_ok-width-in-73 : goal.returns-in_ok-width-in-73
+returns-in_ok-width-in-73 c =
+    let k = number_at c.args.p.at c.args.m.value in
+    rw c.single.ensures
+    (letter_read c.requires.number_found c.requires.at_in_bounds.0 refl (ends-I k) (λ l xs q. rw c.in-73.is) c.args.p.outside _ c.outside_of-outside.ensures c.in_ok-width-in-73.ensures _
+    (times_at c.args.p.at c.args.m.value ∙ sym c.unwrap_or-repeat.ensures))
+
+pub returns-in_err-width-in-76 : goal.returns-in_err-width-in-76
+returns-in_err-width-in-76 c =
+    let k = number_at c.args.p.at c.args.m.value in
+    rw (passed_on c.from_residual-in_err-width-in-76.ensures.1)
+    (letter_missing c.requires.number_found c.requires.at_in_bounds.0 refl (ends-L k) (λ l xs q. rw c.in-76.is) c.in_err-width-in-76.ensures c.args.p.outside)
+
+pub returns-in_ok-width-in-76 : goal.returns-in_ok-width-in-76
+returns-in_ok-width-in-76 c =
+    let k = number_at c.args.p.at c.args.m.value in
+    rw c.single-in-76.ensures
+    (letter_read c.requires.number_found c.requires.at_in_bounds.0 refl (ends-L k) (λ l xs q. rw c.in-76.is) c.args.p.outside _ c.outside_of-outside.ensures c.in_ok-width-in-76.ensures _
+    (times_at c.args.p.at c.args.m.value ∙ sym c.unwrap_or-repeat.ensures))
+
+pub returns-in_err-column-in-84 : goal.returns-in_err-column-in-84
+returns-in_err-column-in-84 c =
+    rw (passed_on c.from_residual-in_err-column-in-84.ensures.1)
+    (T-missing c.requires.number_found c.requires.at_in_bounds.0 c.in-84.is (sym c.if-is_some.ensures) c.in_err-column-in-84.ensures c.args.p.outside)
+
+pub returns-in_ok-column-in-84 : goal.returns-in_ok-column-in-84
+returns-in_ok-column-in-84 c =
+    rw c.single-in-84.ensures
+    (T-read c.requires.number_found c.requires.at_in_bounds.0 c.in-84.is (sym c.if-is_some.ensures) c.args.p.outside _ c.outside_of-outside.ensures c.in_ok-column-in-84.ensures)

@@ -1,65 +1,46 @@
-use native.Mathlib.Omega.{arith}
-use lib.ListN.{get_or}
-use Rattle.format_run.proofs.Views.{as_group, in-entries}
-use Rattle.format_run.proofs.Adding.{product, added_none, held_at, added_all, added_group, added_other}
+use Rattle.std.proofs.Common.{◌≡◌, ◌∙◌, sym, ap, subst, ◌∷◌, ℕ, ◌+◌, ◌*◌, ◌-◌, take, arith}
+use Rattle.format_words.specs.declared.Entry.TheVariants as entry
+use Rattle.format_words.specs.Held.{SomeItems}
+use Rattle.format_run.specs.Sizes.{capped}
+use Rattle.format_run.proofs.Views.{Group, as_group, inside_of}
+use Rattle.format_run.proofs.Adding.{held_left, added_all, added_item, added_group}
 use Rattle.format_run.proofs.size.+size_of.Goals as goal
+use Rattle.format_run.proofs.size.+size_of.Goals.{After-from-in-Group, After-split_at}
 
-pub loop-i-init : goal.loop-i-init
-loop-i-init t c = added_none
+-- the entries left begin with a group's
+abbrev left : (t : ℕ) (c : After-from-in-Group t) → SomeItems (entry.Group c.in-Group.entries c.in-Group.repeat ∷ c.in-Some.tail.now) c.args.level
+left t c = subst (λ es. SomeItems es c.args.level) (c.in-Some.ensures.cases.0 ∙ ap (λ e. e ∷ c.in-Some.tail.now) c.in-Group.is) (held_left c.loop-entry.invariant c.requires)
 
-pub offset_bounds-entries-i : goal.offset_bounds-entries-i
-offset_bounds-entries-i t c = omega (arith, in-entries (held_at c.loop-i.invariant c.requires).holds c.loop-i-test.true)
+group : (t : ℕ) (c : After-from-in-Group t) → Group (left t c).t (left t c).c c.args.level c.in-Group.entries c.in-Group.repeat c.in-Some.tail.now (left t c).items
+group t c = as_group (left t c).holds
 
-pub bounds-entries-i : goal.bounds-entries-i
-bounds-entries-i t c = in-entries (held_at c.loop-i.invariant c.requires).holds c.loop-i-test.true
+pub loop-entry-preserved-in-Item : goal.loop-entry-preserved-in-Item
+loop-entry-preserved-in-Item t c =
+    added_item c.loop-entry.invariant c.min-total.result (c.in-Some.ensures.cases.0 ∙ ap (λ e. e ∷ c.in-Some.tail.now) c.in-Item.is)
+    (omega (arith, c.min-total.ensures, c.from.ensures))
 
-pub overflow_add-mid-then-w-eq-KIND_GROUP : goal.overflow_add-mid-then-w-eq-KIND_GROUP
-overflow_add-mid-then-w-eq-KIND_GROUP t c =
-    let h = held_at c.loop-i.invariant c.requires in
-    let g = as_group h.holds c.loop-i-test.true c.if-w-eq-KIND_GROUP.true in
-    omega (arith, g.before, c.ranges.to)
+pub split_at-requires : goal.split_at-requires
+split_at-requires t c = let g = group t (goal.at.split_at-requires t c).After-from-in-Group in omega (arith, g.few, c.from-in-Group.ensures)
 
 pub overflow_sub-level : goal.overflow_sub-level
-overflow_sub-level t c =
-    let h = held_at c.loop-i.invariant c.requires in
-    let g = as_group h.holds c.loop-i-test.true c.if-w-eq-KIND_GROUP.true in
-    g.deep
+overflow_sub-level t c = (group t (goal.at.overflow_sub-level t c).After-from-in-Group).deep
 
-pub size_of-inside-requires : goal.size_of-inside-requires
-size_of-inside-requires t c =
-    let h = held_at c.loop-i.invariant c.requires in
-    let g = as_group h.holds c.loop-i-test.true c.if-w-eq-KIND_GROUP.true in
-    (omega (arith, g.deep), record { t = _; c = _; items = g.inside; holds = g.one })
+-- the first part of the others is the group's
+inside_is : (t : ℕ) (c : After-split_at t) → take c.in-Group.entries c.in-Some.tail.now ≡ c.split_at.result.0.now
+inside_is t c = sym (c.split_at.ensures.front ∙ ap (λ n. take n c.in-Some.tail.now) c.from-in-Group.ensures)
 
-pub overflow_mul-r : goal.overflow_mul-r
-overflow_mul-r t c =
-    omega
-    (arith, product (get_or c.args.entries.now c.loop-i.i 0) c.size_of-inside.result c.size_of-inside.ensures.bounded)
+pub size_of-requires : goal.size_of-requires
+size_of-requires t c =
+    let a = goal.at.size_of-requires t c in
+    let g = group t a.After-from-in-Group in
+    (omega (arith, g.deep), subst (λ es. SomeItems es (c.args.level - 1)) (inside_is t a.After-split_at) (inside_of (left t a.After-from-in-Group)))
 
-pub overflow_add-total : goal.overflow_add-total
-overflow_add-total t c =
-    omega
-    (arith, c.loop-i.invariant.low, product (get_or c.args.entries.now c.loop-i.i 0) c.size_of-inside.result c.size_of-inside.ensures.bounded)
+pub loop-entry-preserved : goal.loop-entry-preserved
+loop-entry-preserved t c =
+    rw (c.split_at.ensures.back, c.from-in-Group.ensures)
+    (added_group c.loop-entry.invariant c.size_of.result c.min-total-in-Group.result (c.in-Some.ensures.cases.0 ∙ ap (λ e. e ∷ c.in-Some.tail.now) c.in-Group.is)
+    (λ u d ys h. c.size_of.ensures.sized u d ys (rw (c.split_at.ensures.front, c.from-in-Group.ensures) h))
+    (c.min-total-in-Group.ensures ∙ ap (λ (r : ℕ). capped (c.loop-entry.total + r * c.size_of.result)) c.from-in-Group-2.ensures))
 
-pub capped-total-requires : goal.capped-total-requires
-capped-total-requires t c = tt
-
-pub loop-i-preserved-then-w-eq-KIND_GROUP : goal.loop-i-preserved-then-w-eq-KIND_GROUP
-loop-i-preserved-then-w-eq-KIND_GROUP t c =
-    added_group c.loop-i.invariant c.loop-i-test.true _ _ c.if-w-eq-KIND_GROUP.true
-    c.size_of-inside.ensures.sized c.capped-total.ensures
-
-pub overflow_add-total-else-w-eq-KIND_GROUP : goal.overflow_add-total-else-w-eq-KIND_GROUP
-overflow_add-total-else-w-eq-KIND_GROUP t c = omega (arith, c.loop-i.invariant.low)
-
-pub capped-total-requires-else-w-eq-KIND_GROUP : goal.capped-total-requires-else-w-eq-KIND_GROUP
-capped-total-requires-else-w-eq-KIND_GROUP t c = tt
-
-pub loop-i-preserved : goal.loop-i-preserved
-loop-i-preserved t c = added_other c.loop-i.invariant c.loop-i-test.true _ c.if-w-eq-KIND_GROUP.false c.capped-total-else-w-eq-KIND_GROUP.ensures
-
-pub returns : goal.returns
-returns t c = record {
-  sized = added_all c.loop-i.invariant c.loop-i-test.false;
-  bounded = c.loop-i.invariant.low;
-}
+pub returns-clause-sized : goal.returns-clause-sized
+returns-clause-sized t c = added_all c.loop-entry.invariant c.in_default.ensures.cases

@@ -1,42 +1,16 @@
-use native.Mathlib.Omega.{arith}
+use Rattle.std.proofs.Common.{ap, ℕ, ◌*◌, ◌<◌}
 use Rattle.format_run.proofs.Repeating.{repeating_none, repeating_more, repeating_all}
 use Rattle.format_run.proofs.unroll.repeat_words.Goals as goal
 
-pub overflow_sub-count : goal.overflow_sub-count
-overflow_sub-count c = c.requires.ordered
-
-pub overflow_mul-end : goal.overflow_mul-end
-overflow_mul-end c = omega (arith, c.requires.room)
-
-pub overflow_add-end : goal.overflow_add-end
-overflow_add-end c = omega (arith, c.requires.room)
-
 pub loop-i-init : goal.loop-i-init
-loop-i-init c = repeating_none c.requires
-
-pub overflow_sub-run : goal.overflow_sub-run
-overflow_sub-run c = omega (arith, c.loop-i.invariant.low)
-
-pub offset_bounds-run-i : goal.offset_bounds-run-i
-offset_bounds-run-i c = omega (arith, c.loop-i.invariant.long, c.requires.room)
-
-pub bounds-run-i : goal.bounds-run-i
-bounds-run-i c = omega (arith, c.loop-i.invariant.long, c.requires.room)
-
-pub offset_bounds-run-i-in-loop-i : goal.offset_bounds-run-i-in-loop-i
-offset_bounds-run-i-in-loop-i c = omega (arith, c.loop-i.invariant.long, c.requires.room)
-
-pub bounds-run-i-in-loop-i : goal.bounds-run-i-in-loop-i
-bounds-run-i-in-loop-i c = omega (arith, c.loop-i.invariant.long, c.requires.room)
-
-pub overflow_add-i : goal.overflow_add-i
-overflow_add-i c = omega (arith, c.requires.room)
+loop-i-init c = repeating_none c.args.run.now c.args.n c.args.r c.requires.some c.requires.room
 
 pub loop-i-preserved : goal.loop-i-preserved
-loop-i-preserved c = repeating_more c.requires c.loop-i.invariant c.loop-i-test.true
+loop-i-preserved c =
+    let e : c.loop-i.i < c.args.r * c.args.n = rw c.from.ensures at c.loop-i-test.true in
+    repeating_more c.args.run.now c.args.n c.args.r c.requires.some c.requires.room _ c.loop-i.run c.loop-i.i c.loop-i.auto.run c.loop-i.auto.i e c.loop-i.invariant
 
-pub shape_of-run : goal.shape_of-run
-shape_of-run c = c.loop-i.invariant.long
-
-pub returns : goal.returns
-returns c = repeating_all c.requires c.loop-i.invariant c.loop-i-test.false
+pub returns-clause-words : goal.returns-clause-words
+returns-clause-words c =
+    repeating_all c.args.run.now c.args.n c.args.r c.requires.some c.requires.room c.loop-i.run c.loop-i.i (c.from.result * c.args.n)
+    (ap (λ (r : ℕ). r * c.args.n) c.from.ensures) c.loop-i-test.false c.loop-i.auto.i-end c.loop-i.invariant

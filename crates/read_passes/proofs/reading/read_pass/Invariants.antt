@@ -1,14 +1,16 @@
-use mathlib.Core.Path.{◌≡◌}
-use mathlib.Core.List.{List}
-use Prim.Native.Nat.{ℕ}
-use lib.ListN.{length}
-use Rattle.sheet_walk.specs.Turns.{Loaded}
-use Rattle.sheet_walk.proofs.Passes as passes
+use Rattle.std.proofs.Common.{◌≡◌, length}
+use Rattle.sheet_walk.specs.Walk.{walk}
+use Rattle.sheet_walk.specs.Given.{given_sheet}
+use Rattle.sheet_walk.specs.Followed.{GoesBy, left_of}
+use Rattle.sheet_walk.proofs.Puts.{puts}
 use Rattle.read_passes.proofs.PassLaws.{Gathering}
 use Rattle.read_passes.proofs.reading.read_pass.Given as goal
 
-abbrev pub invariant-loop-at : goal.invariant-loop-at
-invariant-loop-at l = ((t : List ℕ) (q : Loaded t l.words l.kinds l.rs) → Gathering t l.words l.back l.kinds l.rs l.records l.amounts l.details l.c) × (length l.amounts ≡ length l.initial.amounts) × (length l.details ≡ length l.initial.details)
+abbrev pub invariant-loop-cover : goal.invariant-loop-cover
+invariant-loop-cover l =
+    GoesBy l.walk l.fn.run l.fn.wanted l.fn.records
+    × (length l.found ≡ length l.initial.found)
+    × Gathering l.fn.wanted l.fn.records l.bytes (walk (given_sheet l.fn.run l.fn.wanted l.fn.records)) l.walk l.found
 
-abbrev pub decreases-loop-at : goal.decreases-loop-at
-decreases-loop-at l = passes.word_turns l.words l.kinds l.c
+abbrev pub decreases-loop-cover : goal.decreases-loop-cover
+decreases-loop-cover l = puts (left_of l.walk)

@@ -1,54 +1,52 @@
-use mathlib.Core.Path.{◌≡◌, refl, sym}
-use Prim.Native.Nat.{◌≤◌}
-use native.Mathlib.Omega.{arith}
-use lib.ListN.{length, take}
-use lib.Seq.{length-take-le}
-use Rattle.list_elements.specs.Limits.{may_be_wanted}
-use Rattle.list_elements.proofs.ApartLaws.{usable_few}
-use Rattle.sheet_read.proofs.Whole.{Giving, giving, given_few, finished}
-use borrow.Author.Rules.{rules}
+use Rattle.std.proofs.Common.{◌≡◌, refl, sym, subst, ◌∙◌, ◌<◌, length, arith, rules}
+use Rattle.std.specs.Prelude.{Ok, Err}
+use Rattle.read_passes.specs.Passes.{Found}
+use Rattle.sheet_walk.proofs.WidthLaws.{width_none, width_over}
+use Rattle.sheet_read.specs.Promises.{Call}
+use Rattle.sheet_read.proofs.Whole.{Accepting, wanted_within, width_answered, read_refused, read_accepted, finished}
 use Rattle.sheet_read.proofs.read.read.Goals as goal
-use Rattle.sheet_read.proofs.read.read.Goals.{After-given_count-m, After-read_numbers-ending, After-usable-n}
+use Rattle.sheet_read.proofs.read.read.Goals.{In_ok-reached}
 
--- the elements used are at most 64, and so are their kinds
-few : (c : After-usable-n) → c.usable-n.result ≤ 64
-few c = rw c.usable-n.ensures (usable_few may_be_wanted c.args.wanted c.take_kinds-check.result c.take_kinds-check.ensures.checked)
+pub returns-then-width-lt1 : goal.returns-then-width-lt1
+returns-then-width-lt1 c =
+    let k : Call = record { R = c.args.width; format = c.args.format.now; wanted = c.args.wanted; area = c.args.area.now; records = c.args.records.now } in
+    let p = finished k.R k.format k.wanted k.area k.records (width_answered k (width_none c.args.width (omega arith))) in
+    record { answers = p.answers; values = p.values; texts = p.texts; number = p.number; place = p.place; records = p.records; starred = p.starred }
 
-all_kinds : (c : After-usable-n) → c.usable-n.result ≤ length c.take_kinds-check.new.kinds
-all_kinds c = let g : length c.take_kinds-check.new.kinds ≡ 64 = search rules in omega (arith, few c)
+pub returns-then-width-gt-WIDEST_RECORD : goal.returns-then-width-gt-WIDEST_RECORD
+returns-then-width-gt-WIDEST_RECORD c =
+    let k : Call = record { R = c.args.width; format = c.args.format.now; wanted = c.args.wanted; area = c.args.area.now; records = c.args.records.now } in
+    let p = finished k.R k.format k.wanted k.area k.records (width_answered k (width_over c.args.width (omega arith) (omega arith))) in
+    record { answers = p.answers; values = p.values; texts = p.texts; number = p.number; place = p.place; records = p.records; starred = p.starred }
 
-long : (c : After-usable-n) → length (take c.usable-n.result c.take_kinds-check.new.kinds) ≡ c.usable-n.result
-long c = length-take-le _ _ (all_kinds c)
+-- what an accepted reading found
+accepting : (c : In_ok-reached) → Accepting (record { R = c.args.width; format = c.args.format.now; wanted = c.args.wanted; area = c.args.area.now; records = c.args.records.now }) c.wanted-wanted.result c.wanted-wanted.ensures c.read_under.result c.read_under.new.found c.read_under.ensures c.in_ok-reached.reached
+accepting c =
+    let l : length c.read_under.new.found ≡ 64 = search rules in
+    read_accepted (record { R = c.args.width; format = c.args.format.now; wanted = c.args.wanted; area = c.args.area.now; records = c.args.records.now }) c.wanted-wanted.result c.wanted-wanted.ensures c.read_under.result c.read_under.new.found c.read_under.ensures
+    c.in_ok-reached.was (rw l (wanted_within c.args.wanted c.wanted-wanted.result c.wanted-wanted.ensures))
 
--- what is given, whatever `read_numbers` answers
-given_so : (c : After-read_numbers-ending) → c.usable-n.result ≤ 64 → length (take c.usable-n.result c.take_kinds-check.new.kinds) ≡ c.usable-n.result
-    → Giving (record { R = c.args.width; format = c.args.format.now; wanted = c.args.wanted; area = c.args.area.now; records = c.args.records.now }) c.take_kinds-check.result c.take_kinds-check.ensures.checked c.take_kinds-check.new.kinds c.take_kinds-check.ensures.kinds c.usable-n.result c.usable-n.ensures c.read_numbers-ending.ensures.read c.read_numbers-ending.result
-given_so c f k =
-    giving (record { R = c.args.width; format = c.args.format.now; wanted = c.args.wanted; area = c.args.area.now; records = c.args.records.now }) c.take_kinds-check.result c.take_kinds-check.ensures.checked c.take_kinds-check.new.kinds c.take_kinds-check.ensures.kinds c.usable-n.result c.usable-n.ensures c.read_numbers-ending.ensures.read c.read_numbers-ending.result refl f k (omega (arith, f, c.read_numbers-ending.auto)) (omega (arith, f, c.read_numbers-ending.auto))
+pub returns-in_err-reached : goal.returns-in_err-reached
+returns-in_err-reached c =
+    let k : Call = record { R = c.args.width; format = c.args.format.now; wanted = c.args.wanted; area = c.args.area.now; records = c.args.records.now } in
+    let r : c.from_residual.result ≡ Err c.in_err-reached.field-0.0 = search rules in
+    let p = finished k.R k.format k.wanted k.area k.records (read_refused k c.wanted-wanted.result c.wanted-wanted.ensures c.read_under.result c.read_under.new.found c.read_under.ensures c.in_err-reached.was) in
+    rw r (record { answers = p.answers; values = p.values; texts = p.texts; number = p.number; place = p.place; records = p.records; starred = p.starred })
 
--- the elements given are among those used
-fewer : (c : After-given_count-m) → c.usable-n.result ≤ length c.take_kinds-check.new.kinds → c.given_count-m.result ≤ length c.take_kinds-check.new.kinds
-fewer c all = rw c.given_count-m.ensures (omega (arith, all, given_few c.read_numbers-ending.result c.usable-n.result))
-
-pub slice_bounds-kinds-end : goal.slice_bounds-kinds-end
-slice_bounds-kinds-end c = all_kinds (goal.at.slice_bounds-kinds-end c).After-usable-n
-
-pub slice_bounds-read_numbers-end : goal.slice_bounds-read_numbers-end
-slice_bounds-read_numbers-end c = sym (long (goal.at.slice_bounds-read_numbers-end c).After-usable-n)
-
-pub read_numbers-ending-requires : goal.read_numbers-ending-requires
-read_numbers-ending-requires c = (omega (arith, long (goal.at.read_numbers-ending-requires c).After-usable-n, few (goal.at.read_numbers-ending-requires c).After-usable-n), omega (arith, long (goal.at.read_numbers-ending-requires c).After-usable-n, few (goal.at.read_numbers-ending-requires c).After-usable-n), omega (arith, long (goal.at.read_numbers-ending-requires c).After-usable-n, few (goal.at.read_numbers-ending-requires c).After-usable-n))
-
-pub slice_bounds-kinds-end-2 : goal.slice_bounds-kinds-end-2
-slice_bounds-kinds-end-2 c = fewer (goal.at.slice_bounds-kinds-end-2 c).After-given_count-m (all_kinds (goal.at.slice_bounds-kinds-end-2 c).After-usable-n)
-
-pub slice_bounds-give-end : goal.slice_bounds-give-end
-slice_bounds-give-end c = sym (length-take-le _ _ (fewer (goal.at.slice_bounds-give-end c).After-given_count-m (all_kinds (goal.at.slice_bounds-give-end c).After-usable-n)))
+pub unwrap-requires : goal.unwrap-requires
+unwrap-requires c = let a = accepting (goal.at.unwrap-requires c).In_ok-reached in rw a.wanted_is refl
 
 pub give-list-requires : goal.give-list-requires
-give-list-requires c = let q = given_so (goal.at.give-list-requires c).After-read_numbers-ending (few (goal.at.give-list-requires c).After-usable-n) (long (goal.at.give-list-requires c).After-usable-n) in rw c.given_count-m.ensures (record { cs = q.cs; held = q.held })
+give-list-requires c =
+    let a = accepting (goal.at.give-list-requires c).In_ok-reached in
+    let e : a.es ≡ c.unwrap.result = let q : Ok a.es ≡ Ok c.unwrap.result = sym a.wanted_is ∙ c.unwrap.ensures in cc in
+    record { cs = a.cs; held = subst (λ z. Found c.args.records.now z.now c.read_under.new.found (length c.args.area.now) a.cs) e a.found_all }
 
 pub returns : goal.returns
 returns c =
-    let clauses = let q = given_so (goal.at.returns c).After-read_numbers-ending (few (goal.at.returns c).After-usable-n) (long (goal.at.returns c).After-usable-n) in finished c.args.width c.args.format.now c.args.wanted c.args.area.now c.args.records.now (rw c.answer_of-answer.ensures (q.answered (c.give-list.ensures.list q.cs (rw c.given_count-m.ensures q.held)) (c.give-list.ensures.texts q.cs (rw c.given_count-m.ensures q.held)))) in
-    record { answers = clauses.0; values = clauses.1.0; texts = clauses.1.1.0; number = clauses.1.1.1.0; place = clauses.1.1.1.1.0; records = clauses.1.1.1.1.1.0; starred = clauses.1.1.1.1.1.1 }
+    let k : Call = record { R = c.args.width; format = c.args.format.now; wanted = c.args.wanted; area = c.args.area.now; records = c.args.records.now } in
+    let a = accepting (goal.at.returns c).In_ok-reached in
+    let e : a.es ≡ c.unwrap.result = let q : Ok a.es ≡ Ok c.unwrap.result = sym a.wanted_is ∙ c.unwrap.ensures in cc in
+    let h = subst (λ z. Found c.args.records.now z.now c.read_under.new.found (length c.args.area.now) a.cs) e a.found_all in
+    let p = finished k.R k.format k.wanted k.area k.records (a.answered (c.give-list.ensures.list a.cs h) (c.give-list.ensures.texts a.cs h)) in
+    record { answers = p.answers; values = p.values; texts = p.texts; number = p.number; place = p.place; records = p.records; starred = p.starred }

@@ -7,15 +7,14 @@ use lib.ListN.{length, take}
 use Rattle.buffer.specs.Splice.{splice}
 use Rattle.list_text.specs.Lines.{first_line, after_line}
 use Rattle.sheet_walk.specs.Refusals.{refusal_number, refusal_place}
-use Rattle.sheet_walk.specs.declared.Answer.{Answer}
-use Rattle.sheet_walk.specs.declared.Answer.TheVariants as answer
+use Rattle.sheet_walk.specs.Answers.{Answer}
+use Rattle.std.specs.Prelude.{Ok, Err}
 use Rattle.sheet_walk.specs.declared.Refusal.{Refusal}
 use Rattle.sheet_text.specs.Output.{refused_line}
 use Rattle.sheet_text.specs.Input.{width_on, input_width}
 use Rattle.sheet_text.specs.SheetOutput.{record_buffer, sheet_output}
 use Rattle.sheet_text.proofs.Unread.{rest_unread}
-use Rattle.sheet_text.proofs.SheetLaws.{Did, did, no_width, sheet_refused, sheet_accepted, output_put}
-use Rattle.sheet_walk.specs.declared.Answer.TheVariants.{Accepted}
+use Rattle.sheet_text.proofs.SheetLaws.{counts, Did, did, no_width, sheet_refused, sheet_accepted, output_put}
 use Rattle.sheet_text.proofs.sheet.sheet.Goals as goal
 use Rattle.sheet_text.proofs.sheet.sheet.Goals.{After-write_list_text}
 
@@ -36,7 +35,7 @@ wrote c =
     c.write_list_text.ensures.answers c.write_list_text.ensures.bytes
 
 -- n records fit, each with a line feed
-lines_fit : (c : After-write_list_text) {count starred : ℕ} → c.write_list_text.result ≡ Accepted count starred
+lines_fit : (c : After-write_list_text) {count starred : ℕ} → c.write_list_text.result ≡ Ok (counts count starred)
     → (count * c.in-Some.width ≤ record_buffer) × (count ≤ record_buffer)
 lines_fit c {count} e =
     let o = sheet_accepted c.args.input.now c.args.records.now (full c) (wrote c) e in
@@ -44,18 +43,18 @@ lines_fit c {count} e =
     (omega (arith, o.room, w), omega (arith, o.room, o.few))
 
 pub put_records-at-requires : goal.put_records-at-requires
-put_records-at-requires c = let f = lines_fit (goal.at.put_records-at-requires c).After-write_list_text c.in-Accepted.is in
+put_records-at-requires c = let f = lines_fit (goal.at.put_records-at-requires c).After-write_list_text c.in-Ok.is in
     let r : length c.write_list_text.new.buffer ≡ 65536 = search rules in
     let o : length c.args.output.now ≡ 131200 = search rules in
     (omega (arith, f.0), omega (arith, f.0, f.1))
 
-pub put_line-requires-in-Accepted : goal.put_line-requires-in-Accepted
-put_line-requires-in-Accepted c = let f = lines_fit (goal.at.put_line-requires-in-Accepted c).After-write_list_text c.in-Accepted.is in
+pub put_line-requires-in-Ok : goal.put_line-requires-in-Ok
+put_line-requires-in-Ok c = let f = lines_fit (goal.at.put_line-requires-in-Ok c).After-write_list_text c.in-Ok.is in
     let o : length c.put_records-at.new.dst ≡ 131200 = search rules in
     omega (arith, f.0, f.1, c.put_records-at.ensures.2)
 
 -- a refused sheet's line
-refused : (s before d₀ : List ℕ) {after d₁ line : List ℕ} {r : Answer} {why : Refusal} {n : ℕ} → Did s before r after → r ≡ answer.Refused why → line ≡ refused_line (refusal_number why) (refusal_place why) → d₁ ≡ splice d₀ 0 line → n ≡ 0 + length line
+refused : (s before d₀ : List ℕ) {after d₁ line : List ℕ} {r : Answer} {why : Refusal} {n : ℕ} → Did s before r after → r ≡ Err why → line ≡ refused_line (refusal_number why) (refusal_place why) → d₁ ≡ splice d₀ 0 line → n ≡ 0 + length line
     → (d₁ ≡ splice d₀ 0 (sheet_output s)) × (n ≡ length (sheet_output s))
 refused s before d₀ d e is put long = let o = sheet_refused s before d e in (put ∙ rw (is, o), long ∙ rw (is, o) (omega arith))
 
@@ -66,22 +65,22 @@ returns-in_default c =
     let o = refused c.args.input.now c.args.records.now c.args.output.now d refl c.refusal_line.ensures c.put_line.ensures.line c.put_line.ensures.end in
     record { length = o.1; room = omega (arith, c.put_line.ensures.few); output = o.0; records = d.is; whole = beginning _ }
 
-pub returns-in-Refused : goal.returns-in-Refused
-returns-in-Refused c =
-    let d = wrote (goal.at.returns-in-Refused c).After-write_list_text in
-    let o = refused c.args.input.now c.args.records.now c.args.output.now d c.in-Refused.is c.refusal_line-in-Refused.ensures c.put_line-in-Refused.ensures.line c.put_line-in-Refused.ensures.end in
-    record { length = o.1; room = omega (arith, c.put_line-in-Refused.ensures.few); output = o.0; records = d.is; whole = beginning _ }
+pub returns-in-Err : goal.returns-in-Err
+returns-in-Err c =
+    let d = wrote (goal.at.returns-in-Err c).After-write_list_text in
+    let o = refused c.args.input.now c.args.records.now c.args.output.now d c.in-Err.is c.refusal_line-in-Err.ensures c.put_line-in-Err.ensures.line c.put_line-in-Err.ensures.end in
+    record { length = o.1; room = omega (arith, c.put_line-in-Err.ensures.few); output = o.0; records = d.is; whole = beginning _ }
 
-pub returns-in-Accepted : goal.returns-in-Accepted
-returns-in-Accepted c =
-    let d = wrote (goal.at.returns-in-Accepted c).After-write_list_text in
-    let o = sheet_accepted c.args.input.now c.args.records.now (full (goal.at.returns-in-Accepted c).After-write_list_text) d c.in-Accepted.is in
-    let f = lines_fit (goal.at.returns-in-Accepted c).After-write_list_text c.in-Accepted.is in
+pub returns-in-Ok : goal.returns-in-Ok
+returns-in-Ok c =
+    let d = wrote (goal.at.returns-in-Ok c).After-write_list_text in
+    let o = sheet_accepted c.args.input.now c.args.records.now (full (goal.at.returns-in-Ok c).After-write_list_text) d c.in-Ok.is in
+    let f = lines_fit (goal.at.returns-in-Ok c).After-write_list_text c.in-Ok.is in
     let line = c.counts.ensures in
-    let w = output_put c.args.input.now _ o c.args.output.now (width_is (goal.at.returns-in-Accepted c).After-write_list_text) c.put_records-at.ensures.0 c.put_records-at.ensures.1 (rw line at c.put_line-in-Accepted.ensures.line) (rw line at c.put_line-in-Accepted.ensures.end) in
+    let w = output_put c.args.input.now _ o c.args.output.now (width_is (goal.at.returns-in-Ok c).After-write_list_text) c.put_records-at.ensures.0 c.put_records-at.ensures.1 (rw line at c.put_line-in-Ok.ensures.line) (rw line at c.put_line-in-Ok.ensures.end) in
     record {
       length = w.0;
-      room = omega (arith, f.0, f.1, c.put_records-at.ensures.2, c.put_line-in-Accepted.ensures.few);
+      room = omega (arith, f.0, f.1, c.put_records-at.ensures.2, c.put_line-in-Ok.ensures.few);
       output = w.1;
       records = d.is;
       whole = beginning _;

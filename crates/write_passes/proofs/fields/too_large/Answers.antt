@@ -1,28 +1,22 @@
-use mathlib.Core.Path.{sym, ◌∙◌}
-use Prim.Native.Nat.{◌<◌}
-use lib.IntN.{pos}
-use lib.ListN.{length, get_or}
-use Rattle.write_passes.proofs.PutLaws.{F-amount, F-detail, F-small, F-places, F-wanted, F-large, other_large, as_bits}
-use borrow.Author.Rules.{rules}
+use Rattle.std.proofs.Common.{refl, sym, ap, ◌∙◌}
+use Rattle.format_words.specs.Words.{met_of}
+use Rattle.list_elements.proofs.WithinLaws.{within_decimal}
+use Rattle.write_passes.specs.Placed.{field_too_large}
+use Rattle.write_passes.proofs.PutLaws.{field_within, good, large, other_large, as_bits}
 use Rattle.write_passes.proofs.fields.too_large.Goals as goal
 
-pub offset_bounds-amounts-i : goal.offset_bounds-amounts-i
-offset_bounds-amounts-i c = let h : c.args.i < length c.args.amounts.now = F-amount c.requires.placeable c.if-word-eq-KIND_F.true in search rules
-
-pub bounds-amounts-i : goal.bounds-amounts-i
-bounds-amounts-i c = F-amount c.requires.placeable c.if-word-eq-KIND_F.true
-
-pub offset_bounds-details-i : goal.offset_bounds-details-i
-offset_bounds-details-i c = let h : c.args.i < length c.args.details.now = F-detail c.requires.placeable c.if-word-eq-KIND_F.true in search rules
-
-pub bounds-details-i : goal.bounds-details-i
-bounds-details-i c = F-detail c.requires.placeable c.if-word-eq-KIND_F.true
+pub returns-in_default : goal.returns-in_default
+returns-in_default c = λ t. sym (other_large t c.args.list c.args.cover.place c.args.cover.word c.in_default.not-F)
 
 pub too_large-requires : goal.too_large-requires
-too_large-requires c = let p = c.requires.placeable in let k = c.if-word-eq-KIND_F.true in let s = F-small p k in (rw (as_bits (get_or c.args.amounts.now c.args.i (pos 0)) s) s, F-places p k, rw c.second_of.ensures (F-wanted p k))
-
-pub returns-then-word-eq-KIND_F : goal.returns-then-word-eq-KIND_F
-returns-then-word-eq-KIND_F c = λ t area vs ks w p. let k = c.if-word-eq-KIND_F.true in rw (as_bits (get_or c.args.amounts.now c.args.i (pos 0)) (F-small p k), c.second_of.ensures) at c.too_large.ensures ∙ sym (F-large p k)
+too_large-requires c =
+    let e = ap (met_of c.requires.t) c.in-F.is in
+    let h = within_decimal c.args.list.area.now c.in-Decimal.decimal (good c.args.list c.requires.covers e c.in-Decimal.is) in
+    (rw (as_bits c.in-Decimal.decimal.units h.0) h.0, h.1, rw c.from.ensures (field_within c.args.list c.requires.covers e c.in-Decimal.is).1.1)
 
 pub returns : goal.returns
-returns c = λ t area vs ks w p. sym (other_large p c.if-word-eq-KIND_F.false)
+unfolding field_too_large
+returns c = λ t.
+    let e = ap (met_of c.requires.t) c.in-F.is in
+    let h = within_decimal c.args.list.area.now c.in-Decimal.decimal (good c.args.list c.requires.covers e c.in-Decimal.is) in
+    (rw (as_bits c.in-Decimal.decimal.units h.0, c.from.ensures) at c.too_large.ensures) ∙ sym (large c.args.list c.requires.covers e c.in-Decimal.is) ∙ rw c.in-F.is refl

@@ -1,14 +1,16 @@
-use mathlib.Core.Path.{◌≡◌}
-use mathlib.Core.List.{List}
-use lib.ListN.{length}
-use Rattle.list_elements.specs.declared.Value.{Value}
-use Rattle.sheet_walk.proofs.Passes as passes
-use Rattle.write_passes.specs.Passes.{Passed}
+use Rattle.std.proofs.Common.{◌≡◌, length}
+use Rattle.sheet_walk.specs.Walk.{walk}
+use Rattle.sheet_walk.specs.Given.{given_sheet}
+use Rattle.sheet_walk.specs.Followed.{GoesBy, left_of}
+use Rattle.sheet_walk.proofs.Puts.{puts}
 use Rattle.write_passes.proofs.LayLaws.{Laying}
 use Rattle.write_passes.proofs.laying.lay_pass.Given as goal
 
-abbrev pub invariant-loop-at : goal.invariant-loop-at
-invariant-loop-at l = ((vs : List Value) (q : Passed l.chars l.area vs l.words l.back l.kinds l.amounts l.details l.rs) → Laying l.chars l.area vs l.words l.back l.kinds l.rs q.n l.initial.dst l.dst l.starred l.c) × (length l.dst ≡ length l.initial.dst)
+abbrev pub invariant-loop-cover : goal.invariant-loop-cover
+invariant-loop-cover l =
+    GoesBy l.walk l.fn.run l.fn.list.elements.now l.fn.records
+    × (length l.buffer ≡ length l.initial.buffer)
+    × Laying l.fn.list l.fn.records (walk (given_sheet l.fn.run l.fn.list.elements.now l.fn.records)) l.initial.buffer (left_of l.walk) l.buffer l.starred
 
-abbrev pub decreases-loop-at : goal.decreases-loop-at
-decreases-loop-at l = passes.word_turns l.words l.kinds l.c
+abbrev pub decreases-loop-cover : goal.decreases-loop-cover
+decreases-loop-cover l = puts (left_of l.walk)

@@ -1,0 +1,323 @@
+-- What the code's walk does at each item: what is left of it, and that it comes to an end.
+-- Assumes nothing.
+use Rattle.std.proofs.Common.{◌≡◌, refl, sym, ap, subst, ◌∙◌, true, false, List, [], ◌∷◌, ℕ, zero, suc, ◌+◌, ◌<◌, ◌≤◌, arith, length, take, drop, get_or, length-drop}
+use lib.Seq.{length-take-le}
+use Rattle.std.specs.Prelude.{Option, Some, None, Result, Ok, Err}
+use Rattle.std.proofs.lemmas.List.{length-map, get_or_default}
+use Rattle.std.proofs.lemmas.List.Elements.{All-get_or}
+use borrow.Author.Tests.{le-leb, lt-leb}
+use lib.ListN.{get_or-map}
+use Rattle.format_items.specs.Items.{Field}
+use Rattle.format_items.specs.Met.{Met}
+use Rattle.format_items.specs.MetRanges.{MetWithin, AllMetWithin}
+use Rattle.format_words.specs.Words.{met_of, RunWord}
+use Rattle.format_words.specs.declared.Word.{Word}
+use Rattle.format_words.specs.declared.Word.TheVariants as word
+use Rattle.list_elements.specs.Elements.{Kind}
+use Rattle.sheet_walk.specs.declared.Refusal.{Refusal}
+use Rattle.sheet_walk.specs.declared.Refusal.TheVariants as refusal
+use Rattle.sheet_walk.specs.declared.Records.{Records}
+use Rattle.sheet_walk.specs.declared.State.{State}
+use Rattle.sheet_walk.specs.declared.Cover.{Cover}
+use Rattle.sheet_walk.specs.declared.walk.Walk.{Walk}
+use Rattle.sheet_walk.specs.Steps.{What, element, literal, Placement, Step, moves, covers, refused, ends, cover_step, field_step, x_step, t_step, next_record, step, has_field, end_step}
+use Rattle.sheet_walk.specs.Walk.{Sheet, put, done, stopped, after}
+use Rattle.sheet_walk.specs.Promises.{Walkable}
+use Rattle.sheet_walk.specs.Given.{items_of, what_of, Covering, fields_of}
+use Rattle.sheet_walk.specs.Followed.{sheet_of, left_of, SameSheet, CoverIs, cover_of, MovesAs, AnswersAs, NextIs}
+use Rattle.sheet_walk.proofs.StepLaws.{CoveredBy, Covered, Does, step_does, AtEnd, end_does}
+use Rattle.sheet_walk.proofs.Covering.{Stands, covered_inside}
+use Rattle.sheet_walk.proofs.Windows.{inside_room}
+use Rattle.sheet_walk.proofs.Turns.{walk_at, item_at, turns_left, item_turn, item_less, end_turn, end_less}
+
+pub drop_within : (xs : List Met) (i : ℕ) → AllMetWithin xs → AllMetWithin (drop i xs)
+drop_within xs zero h = h
+drop_within [] (suc i) h = tt
+drop_within (x ∷ xs) (suc i) h = drop_within xs i h.1
+
+within_at : (xs : List Met) (i : ℕ) → AllMetWithin xs → MetWithin (get_or xs i Met.slash)
+within_at [] i h = tt
+within_at (x ∷ xs) zero h = h.0
+within_at (x ∷ xs) (suc i) h = within_at xs i h.1
+
+-- ---- what covers columns, by its item
+
+covered_what : (kinds : List Kind) (x : Met) (s : State) (w : ℕ) (what : What) → CoveredBy kinds x s w what → what ≡ what_of x s.taken
+covered_what kinds x s w (element i f) by = rw (by.0, by.1)
+covered_what kinds x s w (literal cs) by = rw by.0
+
+covered_covering : (kinds : List Kind) (x : Met) (s : State) (w : ℕ) (what : What) → CoveredBy kinds x s w what → Covering kinds x s.taken w
+covered_covering kinds x s w (element i f) by = rw (by.0, ← by.1) by.2
+covered_covering kinds x s w (literal cs) by = rw by.0 by.1
+
+-- ---- a walk, and where it stands
+
+-- the most turns still to come
+abbrev pub turns_of : Walk → ℕ
+turns_of w = turns_left (sheet_of w) w.index w.state
+
+module _ (w : Walk) where
+  abbrev pub h : Sheet
+  h = sheet_of w
+
+  walkable : Walkable h
+  walkable = record { items_within = w.run.within; part_within = drop_within (items_of w.run) w.run.back w.run.within; some_record = omega (arith, w.in_record) }
+
+  stands : Stands h w.state
+  stands = record { few = rw length-map w.few; to = w.to; from = λ _. w.from; in-records = λ _. w.in_record }
+
+  -- another walk that goes by the same
+  module _ (v : Walk) (same : SameSheet w v) where
+    sheets : sheet_of v ≡ sheet_of w
+    sheets = rw (same.run, same.elements, same.records)
+
+    left_is : {i : ℕ} → v.index ≡ i → left_of v ≡ walk_at h i v.state
+    left_is e = ap (λ k. walk_at k v.index v.state) sheets ∙ ap (λ j. walk_at h j v.state) e
+
+    turns_are : {i : ℕ} → v.index ≡ i → turns_of v ≡ turns_left h i v.state
+    turns_are e = ap (λ k. turns_left k v.index v.state) sheets ∙ ap (λ j. turns_left h j v.state) e
+
+  -- ---- at an item
+
+  module _ (x d : Word) (i : w.index < length w.run.words.now) (is : get_or w.run.words.now w.index d ≡ x) where
+    inside : w.index < length h.items
+    inside = rw length-map i
+
+    item_is : item_at h w.index ≡ met_of w.run.chars.now x
+    item_is = get_or_default (items_of w.run) w.index Met.slash (met_of w.run.chars.now d) inside ∙ get_or-map (met_of w.run.chars.now) w.run.words.now w.index d ∙ ap (met_of w.run.chars.now) is
+
+    abbrev pub the_step : Step
+    the_step = step h.kinds h.records (met_of w.run.chars.now x) w.state
+
+    left_after : left_of w ≡ after the_step w.state (walk_at h (w.index + 1))
+    left_after = item_turn h w.index w.state inside ∙ ap (λ y. after (step h.kinds h.records y w.state) w.state (walk_at h (w.index + 1))) item_is
+
+    does : Does h.kinds h.records (met_of w.run.chars.now x) w.state the_step
+    does = step_does h.kinds h.records w.state (met_of w.run.chars.now x)
+
+    -- v is left of the walk after it
+    pub record Moved (v : Walk) : Type 0 where
+      pub left : left_of w ≡ left_of v
+      pub less : turns_of v < turns_of w
+      pub taken : v.state.taken ≡ w.state.taken + fields_of (met_of w.run.chars.now x)
+
+    moves_on : (v : Walk) → SameSheet w v → v.index ≡ w.index + 1 → MovesAs the_step (Ok tt) v.state → Moved v
+    moves_on v same e = go the_step does left_after
+      where
+        go : (st : Step) → Does h.kinds h.records (met_of w.run.chars.now x) w.state st → left_of w ≡ after st w.state (walk_at h (w.index + 1)) → MovesAs st (Ok tt) v.state → Moved v
+        go (moves n) d l m =
+            let f : n.taken ≡ w.state.taken + fields_of (item_at h w.index) = d.0.takes ∙ ap (λ (y : Met). w.state.taken + fields_of y) (sym item_is) in
+            record {
+              left = l ∙ sym (left_is v same e ∙ ap (walk_at h (w.index + 1)) m.1);
+              less = rw (turns_are v same e, m.1) (item_less h w.index w.state inside n f);
+              taken = ap (λ z. z.taken) m.1 ∙ d.0.takes;
+            }
+        go (covers p n) d l m = absurd m
+        go (refused why) d l m = let z : ⊥ = cc in absurd z
+        go ends d l m = absurd m
+
+    -- as the answer r of a step says
+    pub item_moves : (v : Walk) → SameSheet w v → v.index ≡ w.index + 1 → {st : Step} → st ≡ the_step → {r : Result Unit Refusal} → r ≡ Ok tt → MovesAs st r v.state → Moved v
+    item_moves v same e {st} g q m = moves_on v same e (subst (λ z. MovesAs z (Ok tt) v.state) g (subst (λ z. MovesAs st z v.state) q m))
+
+    pub item_refused : (why : Refusal) (s : State) {st : Step} → st ≡ the_step → {r : Result Unit Refusal} → r ≡ Err why → MovesAs st r s → left_of w ≡ stopped why
+    item_refused why s {st} g q m = go the_step left_after (subst (λ z. MovesAs z (Err why) s) g (subst (λ z. MovesAs st z s) q m))
+      where
+        go : (st : Step) → left_of w ≡ after st w.state (walk_at h (w.index + 1)) → MovesAs st (Err why) s → left_of w ≡ stopped why
+        go (moves n) l m = let e = m.0 in let z : ⊥ = cc in absurd z
+        go (covers p n) l m = absurd m
+        go (refused y) l m = l ∙ (let z : y ≡ why = cc in ap stopped z)
+        go ends l m = absurd m
+
+    cover_is : (p : Placement) (n : State) → Covered h.kinds h.records (met_of w.run.chars.now x) w.state p n → CoverIs h w.run.chars.now (cover_of h.records.width x w.state.taken p) p
+    cover_is p n e =
+        let k = covered_inside h (met_of w.run.chars.now x) w.state n p h.records.count stands e walkable w.in_record in
+        record {
+          at = refl;
+          width = refl;
+          what = covered_what h.kinds (met_of w.run.chars.now x) w.state p.width p.what e.by;
+          word = record {
+            sound = subst (RunWord (length w.run.chars.now)) is (All-get_or (RunWord (length w.run.chars.now)) w.run.words.now w.index d i w.run.sound);
+            within = subst MetWithin item_is (within_at h.items w.index w.run.within);
+            covers = covered_covering h.kinds (met_of w.run.chars.now x) w.state p.width p.what e.by;
+          };
+          room = inside_room h.records.width h.records.count p k;
+          few = omega (arith, k.from, k.to, w.narrow);
+        }
+
+    pub item_answers : (v : Walk) → SameSheet w v → v.index ≡ w.index + 1 → (r : Result (Option Cover) Refusal) {st : Step} → st ≡ the_step → AnswersAs h.records x w.state st r v.state → NextIs w r v
+    item_answers v same e r g m = go the_step does left_after (subst (λ z. AnswersAs h.records x w.state z r v.state) g m)
+      where
+        go : (st : Step) → Does h.kinds h.records (met_of w.run.chars.now x) w.state st → left_of w ≡ after st w.state (walk_at h (w.index + 1))
+            → AnswersAs h.records x w.state st r v.state → NextIs w r v
+        go (moves n) d l m = absurd m
+        go (covers p n) d l m =
+            rw m.0
+            (record {
+              placement = p;
+              left = l ∙ ap (put p) (sym (left_is v same e ∙ ap (walk_at h (w.index + 1)) m.1));
+              same = same;
+              is = cover_is p n d;
+              met = refl;
+              taken = ap (λ z. z.taken) m.1 ∙ d.moved.takes;
+            })
+        go (refused why) d l m = rw m l
+        go ends d l m = rw (m.0, m.1) l
+
+  -- ---- what the word of an item says
+
+  module _ (d : Word) (i : w.index < length w.run.words.now) where
+    word_within : MetWithin (met_of w.run.chars.now (get_or w.run.words.now w.index d))
+    word_within = subst MetWithin (item_is (get_or w.run.words.now w.index d) d i refl) (within_at h.items w.index w.run.within)
+
+    word_sound : RunWord (length w.run.chars.now) (get_or w.run.words.now w.index d)
+    word_sound = All-get_or (RunWord (length w.run.chars.now)) w.run.words.now w.index d i w.run.sound
+
+    -- the column of a T
+    pub tab_from : {n : ℕ} → get_or w.run.words.now w.index d ≡ word.T n → 1 ≤ n
+    tab_from {n} e = let m : MetWithin (Met.T n) = rw e at word_within in m.0
+
+    -- a literal has as many characters as its word says
+    pub literal_length : {a n : ℕ} → get_or w.run.words.now w.index d ≡ word.Literal a n → n ≡ length (take n (drop a w.run.chars.now))
+    literal_length {a} {n} e =
+        let m : a + n ≤ length w.run.chars.now = rw e at word_sound in
+        sym (length-take-le n (drop a w.run.chars.now) (omega (arith, length-drop a w.run.chars.now)))
+
+  -- ---- at the end of the format
+
+  module _ (past : length w.run.words.now ≤ w.index) where
+    past_items : length h.items ≤ w.index
+    past_items = rw length-map past
+
+    end_after : left_of w ≡ after (end_step h.kinds h.records h.part w.state) w.state (walk_at h w.run.back)
+    end_after = end_turn h w.index w.state past_items w.run.back refl
+
+    at_end : AtEnd h.kinds h.records w.state h.part (end_step h.kinds h.records h.part w.state)
+    at_end = end_does h.kinds h.records w.state h.part
+
+    -- to the part that the walk returns to
+    pub end_moves : (v : Walk) → SameSheet w v → {st : Step} → st ≡ end_step h.kinds h.records h.part w.state → {r : Result Unit Refusal} → r ≡ Ok tt → MovesAs st r v.state
+        → (left_of w ≡ walk_at (sheet_of v) v.run.back v.state) × (turns_left (sheet_of v) v.run.back v.state < turns_of w) × (v.state.taken ≡ w.state.taken)
+    end_moves v same {st} g q m =
+        let k : (left_of w ≡ walk_at h w.run.back v.state) × (turns_left h w.run.back v.state < turns_of w) × (v.state.taken ≡ w.state.taken) =
+        go (end_step h.kinds h.records h.part w.state) at_end end_after (subst (λ z. MovesAs z (Ok tt) v.state) g (subst (λ z. MovesAs st z v.state) q m)) in
+        let e : h ≡ sheet_of v = sym (sheets v same) in
+        let b : w.run.back ≡ v.run.back = ap (λ u. u.back) (sym same.run) in (
+          k.0 ∙ ap (λ z. walk_at z w.run.back v.state) e ∙ ap (λ j. walk_at (sheet_of v) j v.state) b,
+          subst (λ j. turns_left (sheet_of v) j v.state < turns_of w) b (subst (λ z. turns_left z w.run.back v.state < turns_of w) e k.1),
+          k.2,
+        )
+      where
+        go : (st : Step) → AtEnd h.kinds h.records w.state h.part st → left_of w ≡ after st w.state (walk_at h w.run.back) → MovesAs st (Ok tt) v.state
+            → (left_of w ≡ walk_at h w.run.back v.state) × (turns_left h w.run.back v.state < turns_of w) × (v.state.taken ≡ w.state.taken)
+        go (moves n) d l m =
+            let t : n.taken ≡ w.state.taken = omega (arith, d.0.takes) in
+            (l ∙ ap (walk_at h w.run.back) (sym m.1), rw m.1 (end_less h w.index w.state past_items w.run.back refl n t d.2 d.1), ap (λ z. z.taken) m.1 ∙ t)
+        go (covers p n) d l m = absurd m
+        go (refused why) d l m = let z : ⊥ = cc in absurd z
+        go ends d l m = absurd m
+
+    pub end_refused : (why : Refusal) (s : State) {st : Step} → st ≡ end_step h.kinds h.records h.part w.state → {r : Result Unit Refusal} → r ≡ Err why → MovesAs st r s → left_of w ≡ stopped why
+    end_refused why s {st} g q m = go (end_step h.kinds h.records h.part w.state) end_after (subst (λ z. MovesAs z (Err why) s) g (subst (λ z. MovesAs st z s) q m))
+      where
+        go : (st : Step) → left_of w ≡ after st w.state (walk_at h w.run.back) → MovesAs st (Err why) s → left_of w ≡ stopped why
+        go (moves n) l m = let e = m.0 in let z : ⊥ = cc in absurd z
+        go (covers p n) l m = absurd m
+        go (refused y) l m = l ∙ (let z : y ≡ why = cc in ap stopped z)
+        go ends l m = absurd m
+
+    pub end_ends : length w.elements.now ≤ w.state.taken → left_of w ≡ done (w.state.row + 1)
+    unfolding end_step
+    end_ends e =
+        let k : length h.kinds ≤ w.state.taken = rw length-map e in
+        end_after ∙ rw (le-leb (length h.kinds) w.state.taken k)
+
+    -- an element is left
+    module _ (some : w.state.taken < length w.elements.now) where
+      remains : w.state.taken < length h.kinds
+      remains = rw length-map some
+
+      pub end_no_field : w.returns ≡ false → left_of w ≡ stopped (refusal.NoField w.state.taken)
+      unfolding end_step
+      end_no_field e =
+          let f : has_field h.part ≡ false = sym w.returns_is ∙ e in
+          end_after ∙ rw (lt-leb (length h.kinds) w.state.taken remains, f)
+
+      pub end_next : w.returns ≡ true → next_record h.records w.state ≡ end_step h.kinds h.records h.part w.state
+      unfolding end_step
+      end_next e =
+          let f : has_field h.part ≡ true = sym w.returns_is ∙ e in
+          rw (lt-leb (length h.kinds) w.state.taken remains, f)
+
+-- ---- the steps by their words
+
+module _ (kinds : List Kind) (rs : Records) (s : State) where
+  pub X-step : {m n : ℕ} → m ≡ n → x_step rs s m ≡ step kinds rs (Met.X n) s
+  unfolding step
+  X-step e = ap (x_step rs s) e
+
+  pub T-step : {m n : ℕ} → m ≡ n → t_step rs s m ≡ step kinds rs (Met.T n) s
+  unfolding step
+  T-step e = ap (t_step rs s) e
+
+  pub slash_step : next_record rs s ≡ step kinds rs Met.slash s
+  unfolding step
+  slash_step = refl
+
+  pub field_is_step : (f : Field ℕ) → field_step rs s f (drop s.taken kinds) ≡ step kinds rs (Met.field f) s
+  unfolding step
+  field_is_step f = refl
+
+  pub literal_step : (cs : List ℕ) {n : ℕ} → n ≡ length cs → cover_step rs s (literal cs) n s.taken ≡ step kinds rs (Met.literal cs) s
+  unfolding step
+  literal_step cs e = ap (λ n. cover_step rs s (literal cs) n s.taken) e
+
+-- ---- walks that go by the same
+
+pub same_as : (w v : Walk) → v.run ≡ w.run → v.elements ≡ w.elements → v.records ≡ w.records → SameSheet w v
+same_as w v e f g = record { run = e; elements = f; records = g }
+
+pub same_on : {u w v : Walk} → SameSheet u w → SameSheet w v → SameSheet u v
+same_on a b = record { run = b.run ∙ a.run; elements = b.elements ∙ a.elements; records = b.records ∙ a.records }
+
+-- what covers columns next, after an earlier part of the walk
+pub next_from : {u w : Walk} (v : Walk) (r : Result (Option Cover) Refusal) → SameSheet u w → left_of u ≡ left_of w → w.state.taken ≡ u.state.taken → NextIs w r v → NextIs u r v
+next_from {u = u} {w = w} v (Ok (Some c)) a e t m =
+    record {
+      placement = m.placement;
+      left = e ∙ m.left;
+      same = same_on a m.same;
+      is = subst (λ k. CoverIs k.0 k.1 c m.placement) (sheet_and_chars a) m.is;
+      met = m.met ∙ t;
+      taken = m.taken ∙ ap (λ k. c.place + fields_of (met_of k.chars.now c.word)) a.run;
+    }
+  where
+    sheet_and_chars : SameSheet u w → ◌≡◌ {A = Sheet × List ℕ} (sheet_of w, w.run.chars.now) (sheet_of u, u.run.chars.now)
+    sheet_and_chars s = rw (sheets u w s, s.run)
+next_from v (Ok None) a e t m = e ∙ m
+next_from v (Err why) a e t m = e ∙ m
+
+-- ---- the word of a field
+
+-- a word that is none of the others
+pub field_word : (t : List ℕ) (x : Word) → ((n : ℕ) → x ≡ word.X n → ⊥) → ((n : ℕ) → x ≡ word.T n → ⊥) → (x ≡ word.Slash → ⊥) → ((a n : ℕ) → x ≡ word.Literal a n → ⊥) → (f : Field ℕ) × (met_of t x ≡ Met.field f)
+field_word t (word.I n) a b c d = (Field.I n, refl)
+field_word t (word.F n k) a b c d = (Field.F n k, refl)
+field_word t (word.L n) a b c d = (Field.L n, refl)
+field_word t word.A a b c d = (Field.A, refl)
+field_word t (word.Aw n) a b c d = (Field.Aw n, refl)
+field_word t (word.X n) a b c d = absurd (a n refl)
+field_word t (word.T n) a b c d = absurd (b n refl)
+field_word t word.Slash a b c d = absurd (c refl)
+field_word t (word.Literal k n) a b c d = absurd (d k n refl)
+
+module _ (w : Walk) (d : Word) where
+  -- the step of a literal's word, for as many columns as it says
+  pub literal_at : w.index < length w.run.words.now → {a n m : ℕ} → get_or w.run.words.now w.index d ≡ word.Literal a n → m ≡ n
+      → cover_step w.records w.state (literal (take n (drop a w.run.chars.now))) m w.state.taken ≡ step (sheet_of w).kinds w.records (Met.literal (take n (drop a w.run.chars.now))) w.state
+  literal_at i {a} {n} {m} e g = literal_step (sheet_of w).kinds w.records w.state (take n (drop a w.run.chars.now)) (g ∙ literal_length w d i e)
+
+  -- the step of a field's word
+  pub field_at : {f : Field ℕ} → met_of w.run.chars.now (get_or w.run.words.now w.index d) ≡ Met.field f
+      → field_step w.records w.state f (drop w.state.taken (sheet_of w).kinds) ≡ step (sheet_of w).kinds w.records (met_of w.run.chars.now (get_or w.run.words.now w.index d)) w.state
+  field_at {f} e = field_is_step (sheet_of w).kinds w.records w.state f ∙ ap (λ x. step (sheet_of w).kinds w.records x w.state) (sym e)

@@ -1,0 +1,30 @@
+-- The words of a run as the items that they stand for.
+-- Assumes nothing.
+use Rattle.std.proofs.Common.{◌≡◌, refl, sym, ap, ◌∙◌, List, [], ◌∷◌, map, ℕ, drop}
+use Rattle.std.specs.Prelude.{◌||◌}
+use Rattle.std.specs.List.{list_any, drop-map}
+use Rattle.format_words.specs.Words.{met_of}
+use Rattle.format_words.specs.declared.Word.{Word}
+use Rattle.format_words.specs.declared.Word.TheVariants as word
+use Rattle.sheet_walk.specs.Steps.{is_field, has_field}
+use Rattle.sheet_walk.specs.Given.{word_is_field}
+
+field_is : (t : List ℕ) (w : Word) → is_field (met_of t w) ≡ word_is_field w
+field_is t (word.I n) = refl
+field_is t (word.F n d) = refl
+field_is t (word.L n) = refl
+field_is t word.A = refl
+field_is t (word.Aw n) = refl
+field_is t (word.X n) = refl
+field_is t (word.T n) = refl
+field_is t word.Slash = refl
+field_is t (word.Literal a n) = refl
+
+fields_are : (t : List ℕ) (ws : List Word) → list_any word_is_field ws ≡ has_field (map (met_of t) ws)
+unfolding has_field
+fields_are t [] = refl
+fields_are t (w ∷ ws) = rw (field_is t w) (ap (λ b. word_is_field w || b) (fields_are t ws))
+
+-- of the words from an index on
+pub part_field : (t : List ℕ) (ws : List Word) (i : ℕ) → list_any word_is_field (drop i ws) ≡ has_field (drop i (map (met_of t) ws))
+part_field t ws i = fields_are t (drop i ws) ∙ ap has_field (sym (drop-map (met_of t) i ws))

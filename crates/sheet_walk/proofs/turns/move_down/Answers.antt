@@ -1,9 +1,0 @@
-use borrow.Author.Tests.{lt-ltb, le-ltb}
-use Rattle.sheet_walk.proofs.CoverLaws.{refused_covers_not}
-use Rattle.sheet_walk.proofs.turns.move_down.Goals as goal
-
-pub returns-then-row-rs : goal.returns-then-row-rs
-returns-then-row-rs c = rw (lt-ltb _ _ c.if-row-rs.true)
-
-pub returns : goal.returns
-returns c = rw (le-ltb _ _ c.if-row-rs.false) refused_covers_not

@@ -1,0 +1,90 @@
+-- What a walk goes by, as the code has it.
+-- Assumes nothing.
+use Rattle.std.specs.Prelude.{◌≡◌, Bool, true, false, cond, List, [], map, ℕ, ◌*◌, ◌^◌, ◌<◌, ◌≤◌, Option, Some, None, length, drop}
+use Rattle.format_items.specs.Met.{Met}
+use Rattle.format_items.specs.MetRanges.{MetWithin}
+use Rattle.format_words.specs.Words.{met_of, RunWord}
+use Rattle.format_words.specs.declared.Word.{Word}
+use Rattle.format_words.specs.declared.Word.TheVariants as word
+use Rattle.format_words.specs.declared.run.Run.{Run}
+use Rattle.list_elements.specs.Elements.{Kind, kind_of, value_of, text_length}
+use Rattle.sheet_walk.specs.Steps.{What, element, literal, is_integer, is_decimal, is_logical, is_text}
+use Rattle.list_elements.specs.declared.Element.{Element}
+use Rattle.sheet_walk.specs.Walk.{Sheet}
+use Rattle.sheet_walk.specs.Promises.{Suited}
+use Rattle.sheet_walk.specs.declared.Records.{Records}
+
+-- the items met
+abbrev pub items_of : Run → List Met
+items_of r = map (met_of r.chars.now) r.words.now
+
+-- the kinds of the elements
+abbrev pub kinds_of : List Element → List Kind
+kinds_of es = map (λ e. kind_of (value_of e)) es
+
+-- the columns that a field's word covers for an element of a kind, where the kind suits it
+abbrev pub suited_width : Word → Kind → Option ℕ
+suited_width (word.I w) k = cond (is_integer k) (Some w) None
+suited_width (word.F w d) k = cond (is_decimal k) (Some w) None
+suited_width (word.L w) k = cond (is_logical k) (Some w) None
+suited_width word.A k = cond (is_text k) (Some (text_length k)) None
+suited_width (word.Aw w) k = cond (is_text k) (Some w) None
+suited_width (word.X n) k = None
+suited_width (word.T n) k = None
+suited_width word.Slash k = None
+suited_width (word.Literal a n) k = None
+
+-- what a walk goes by, with the items of a run, these elements and these records
+abbrev pub given_sheet : Run → List Element → Records → Sheet
+given_sheet r es rs = record { items = items_of r; part = drop r.back (items_of r); kinds = kinds_of es; records = rs }
+
+-- there is a record, and a byte's place in the records is a number of the machine
+pub record Roomy (rs : Records) : Type 0 where
+  pub some_record : 0 < rs.count
+  pub wide : 1 ≤ rs.width
+  pub narrow : rs.width < 256
+  pub fits : rs.count * rs.width < 2 ^ 63
+
+-- ---- what the item of a word covers columns with
+
+-- what an item covers columns with, where element i is the next one
+abbrev pub what_of : Met → ℕ → What
+what_of (Met.field f) i = element i f
+what_of (Met.X n) i = literal []
+what_of (Met.T n) i = literal []
+what_of Met.slash i = literal []
+what_of (Met.literal cs) i = literal cs
+
+-- an item covers w columns: a field that the element's kind suits, or a literal of so many characters
+abbrev pub Covering : List Kind → Met → ℕ → ℕ → Type 0
+Covering kinds (Met.field f) i w = Suited kinds i f w
+Covering kinds (Met.X n) i w = ⊥
+Covering kinds (Met.T n) i w = ⊥
+Covering kinds Met.slash i w = ⊥
+Covering kinds (Met.literal cs) i w = w ≡ length cs
+
+-- the item of a word, met where element i of these kinds is the next one, covers w columns
+pub record WordCovers (t : List ℕ) (kinds : List Kind) (word : Word) (i w : ℕ) : Type 0 where
+  pub sound : RunWord (length t) word
+  pub within : MetWithin (met_of t word)
+  pub covers : Covering kinds (met_of t word) i w
+
+-- the elements that an item takes where the walk goes on: 1 for a field
+abbrev pub fields_of : Met → ℕ
+fields_of (Met.field f) = 1
+fields_of (Met.X n) = 0
+fields_of (Met.T n) = 0
+fields_of Met.slash = 0
+fields_of (Met.literal cs) = 0
+
+-- whether a word is that of a field
+abbrev pub word_is_field : Word → Bool
+word_is_field (word.I w) = true
+word_is_field (word.F w d) = true
+word_is_field (word.L w) = true
+word_is_field word.A = true
+word_is_field (word.Aw w) = true
+word_is_field (word.X n) = false
+word_is_field (word.T n) = false
+word_is_field word.Slash = false
+word_is_field (word.Literal a n) = false
