@@ -1,11 +1,7 @@
 // The element lines of a case.
-use crate::numbers::{number, numbers, signed};
+use crate::lines::data_of;
+use crate::numbers::{number, numbers, signed, unsigned};
 use list_elements::{Decimal, Element, List, Text, Value};
-
-// What stands in a line behind its letter and a blank.
-fn data_of(line: &[u8]) -> &[u8] {
-    line.get(2..).unwrap_or(&[])
-}
 
 // The value of an element line: `D units places`, `L T` or `L F`, `A start len`; where it begins with no other letter, an
 // integer.
@@ -13,7 +9,7 @@ fn value_of(line: &[u8]) -> Value {
     let data = data_of(line);
     match line.first() {
         Some(b'D') => {
-            let [_, places] = numbers::<2>(data);
+            let [_, places] = numbers::<2>(unsigned(data));
             Value::Decimal(Decimal {
                 units: signed(data),
                 places,
@@ -29,7 +25,7 @@ fn value_of(line: &[u8]) -> Value {
 }
 
 // Adds a line to a list: an element, or `N` and the count. Past the 64th element only the count goes up.
-pub fn add_line(list: &mut List, line: &[u8]) {
+pub(crate) fn add_line(list: &mut List, line: &[u8]) {
     if line.starts_with(b"N") {
         list.count = number(data_of(line));
         return;

@@ -2,7 +2,7 @@
 // is proved safe and ending, and promises little else.
 #![tactic(auto)]
 
-pub mod elements;
+mod elements;
 pub mod lines;
 pub mod marks;
 pub mod numbers;

@@ -7,7 +7,7 @@ use list_elements::List;
 use std::slice::Iter;
 
 // A case: its first line, the format, a line of bytes, and the list.
-#[derive(Clone, Copy)]
+#[derive(Clone, Copy, PartialEq, Eq, Debug)]
 pub struct Sheet<'a> {
     pub head: &'a [u8],
     pub format: &'a [u8],

@@ -1,77 +1,51 @@
 // What is printed of an answer.
 ghost use Rattle.std.specs.Prelude.{◌++◌, Some, codes, decimal};
+ghost use Rattle.sheet_walk.specs.Refusals.{refusal_number, refusal_place};
 
-use format_items::FormatRefusal;
-use sheet_walk::Refusal;
+use crate::marks::is_marked;
+use sheet_walk::{Counts, Refusal};
 use std::{fmt, io};
 
-// A refusal's number and place.
+// A refusal as it is printed: its number and place.
 #[derive(Clone, Copy, PartialEq, Eq, Debug)]
-pub struct Refused {
-    pub number: u64,
-    pub place: usize,
-}
-
-impl From<FormatRefusal> for Refused {
-    fn from(refusal: FormatRefusal) -> Self {
-        Refused {
-            number: refusal.number(),
-            place: refusal.place(),
-        }
-    }
-}
-
-impl From<Refusal> for Refused {
-    fn from(refusal: Refusal) -> Self {
-        Refused {
-            number: refusal.number(),
-            place: refusal.place(),
-        }
-    }
-}
+pub struct Refused(pub Refusal);
 
 impl fmt::Display for Refused {
-    ghost output = { λ r. Some (codes "refused " ++ decimal r.number ++ codes " " ++ decimal r.place) };
+    ghost output = { λ r. Some (codes "refused " ++ decimal (refusal_number r.0) ++ codes " " ++ decimal (refusal_place r.0)) };
 
     fn fmt<W: fmt::Write>(&self, f: &mut fmt::Formatter<W>) -> fmt::Result {
-        write!(f, "refused {} {}", self.number, self.place)
+        write!(f, "refused {} {}", self.0.number(), self.0.place())
     }
 }
 
-// The counts of an accepted sheet.
+// The counts of an accepted sheet as they are printed.
 #[derive(Clone, Copy, PartialEq, Eq, Debug)]
-pub struct Counts {
-    pub records: usize,
-    pub starred: usize,
-}
+pub struct Accepted(pub Counts);
 
-impl From<sheet_walk::Counts> for Counts {
-    fn from(counts: sheet_walk::Counts) -> Self {
-        Counts {
-            records: counts.records,
-            starred: counts.starred,
-        }
-    }
-}
-
-impl fmt::Display for Counts {
-    ghost output = { λ c. Some (codes "records " ++ decimal c.records ++ codes " starred " ++ decimal c.starred) };
+impl fmt::Display for Accepted {
+    ghost output = { λ a. Some (codes "records " ++ decimal a.0.records ++ codes " starred " ++ decimal a.0.starred) };
 
     fn fmt<W: fmt::Write>(&self, f: &mut fmt::Formatter<W>) -> fmt::Result {
-        write!(f, "records {} starred {}", self.records, self.starred)
+        write!(f, "records {} starred {}", self.0.records, self.0.starred)
     }
 }
 
-// Bytes between bars, after a blank. They need be no text, so no `Display` can write them.
+// Bytes between bars. They need be no text, so no `Display` can write them.
 pub fn show_bytes(rt: &impl Print, bytes: &[u8]) -> io::Result<()> {
-    rt.write_all(b" |")?;
+    rt.write_all(b"|")?;
     rt.write_all(bytes)?;
     rt.write_all(b"|")
 }
 
 // An accepted writing on a line: the counts, and the whole buffer.
 pub fn show_records(rt: &impl Print, counts: Counts, buffer: &[u8]) -> io::Result<()> {
-    rt.print(counts)?;
+    print!(rt; "{} ", Accepted(counts))?;
     show_bytes(rt, buffer)?;
-    rt.write_all(b"\n")
+    println!(rt)
+}
+
+// A refused sheet on a line: the refusal, and whether the bytes lent were changed.
+pub fn show_refusal(rt: &impl Print, refusal: Refusal, lent: &[u8]) -> io::Result<()> {
+    let changed = if is_marked(lent) { "" } else { " changed" };
+    println!(rt; "{}{changed}", Refused(refusal))
 }

@@ -6,7 +6,8 @@ ghost use Rattle.console.specs.HostAnswers.{host_write_number, host_check_number
 use format_check::FormatRefusal;
 use sheet_walk::{Counts, Refusal};
 
-// The records written, or the refusal's number negated.
+// The records written, or the refusal's number negated. (Casts, here and below, for the C interface's one number; the proof has
+// each within range.)
 pub fn write_answer(answer: Result<Counts, Refusal>) -> i64
     requires { answer_records answer < 2 ^ 63 }
     ensures { result ≡ host_write_number answer }

@@ -1,37 +1,30 @@
 // Fields written: the field with two bytes beside it on either side, between bars, then its answer.
-ghost use Rattle.std.specs.Prelude.{◌≤◌, nat_abs, length};
+ghost use Rattle.std.specs.Prelude.{◌≤◌, nat_abs};
 ghost use Rattle.number.specs.Limits.{largest, most_places};
 
+use crate::Case;
+use case_lines::shown::show_bytes;
 use field_written::decimal::write_decimal;
 use field_written::integer::write_integer;
 use number::TooLarge;
 use std::io;
 
 // n under Iw.
-#[derive(Clone, Copy)]
-struct IntegerCase {
+#[derive(Clone, Copy, PartialEq, Eq, Debug)]
+pub struct IntegerCase {
     width: usize,
     n: i64,
     ghost fits: { (width ≤ 64) × (nat_abs n ≤ largest) },
 }
 
 // units / 10^places under Fw.d.
-#[derive(Clone, Copy)]
-struct DecimalCase {
+#[derive(Clone, Copy, PartialEq, Eq, Debug)]
+pub struct DecimalCase {
     width: usize,
     d: usize,
     units: i64,
     places: usize,
     ghost fits: { (width ≤ 64) × (d ≤ most_places) × (nat_abs units ≤ largest) × (places ≤ most_places) },
-}
-
-// The first `width` bytes of a line, between bars.
-fn show(rt: &impl Print, line: &[u8], width: usize) -> io::Result<()>
-    requires { width ≤ length line.now }
-{
-    rt.write_all(b"|")?;
-    rt.write_all(&line[..width])?;
-    rt.write_all(b"|")
 }
 
 impl IntegerCase {
@@ -40,11 +33,13 @@ impl IntegerCase {
     {
         IntegerCase { width, n }
     }
+}
 
-    fn show(self, rt: &impl Print) -> io::Result<()> {
+impl Case for IntegerCase {
+    fn show(&self, rt: &impl Print) -> io::Result<()> {
         let mut line = [b'x'; 68];
         let starred = write_integer(&mut line[2..2 + self.width], self.n);
-        show(rt, &line, self.width + 4)?;
+        show_bytes(rt, &line[..self.width + 4])?;
         println!(rt; "{}", if starred { " starred" } else { "" })
     }
 }
@@ -60,8 +55,10 @@ impl DecimalCase {
             places,
         }
     }
+}
 
-    fn show(self, rt: &impl Print) -> io::Result<()> {
+impl Case for DecimalCase {
+    fn show(&self, rt: &impl Print) -> io::Result<()> {
         let mut line = [b'x'; 68];
         let answer = write_decimal(
             &mut line[2..2 + self.width],
@@ -69,7 +66,7 @@ impl DecimalCase {
             self.units,
             self.places,
         );
-        show(rt, &line, self.width + 4)?;
+        show_bytes(rt, &line[..self.width + 4])?;
         match answer {
             Ok(false) => println!(rt),
             Ok(true) => println!(rt; " starred"),
@@ -78,8 +75,8 @@ impl DecimalCase {
     }
 }
 
-pub fn integers(rt: &impl Print) -> io::Result<()> {
-    let cases = [
+pub fn integers() -> [IntegerCase; 10] {
+    [
         IntegerCase::new(3, 999),
         IntegerCase::new(3, -99),
         IntegerCase::new(3, 1000),
@@ -90,15 +87,11 @@ pub fn integers(rt: &impl Print) -> io::Result<()> {
         IntegerCase::new(4, 7),
         IntegerCase::new(6, -450),
         IntegerCase::new(64, 10),
-    ];
-    for case in cases {
-        case.show(rt)?;
-    }
-    Ok(())
+    ]
 }
 
-pub fn decimals(rt: &impl Print) -> io::Result<()> {
-    let cases = [
+pub fn decimals() -> [DecimalCase; 20] {
+    [
         DecimalCase::new(4, 1, -3, 1),
         DecimalCase::new(3, 1, -3, 1),
         DecimalCase::new(2, 1, -3, 1),
@@ -119,28 +112,20 @@ pub fn decimals(rt: &impl Print) -> io::Result<()> {
         DecimalCase::new(5, 2, -4, 3),
         DecimalCase::new(2, 1, 3, 1),
         DecimalCase::new(1, 1, 3, 1),
-    ];
-    for case in cases {
-        case.show(rt)?;
-    }
-    Ok(())
+    ]
 }
 
 // At the largest magnitude.
-pub fn integer_limits(rt: &impl Print) -> io::Result<()> {
-    let cases = [
+pub fn integer_limits() -> [IntegerCase; 3] {
+    [
         IntegerCase::new(18, 999_999_999_999_999_999),
         IntegerCase::new(18, -999_999_999_999_999_999),
         IntegerCase::new(20, -999_999_999_999_999_999),
-    ];
-    for case in cases {
-        case.show(rt)?;
-    }
-    Ok(())
+    ]
 }
 
-pub fn decimal_limits(rt: &impl Print) -> io::Result<()> {
-    let cases = [
+pub fn decimal_limits() -> [DecimalCase; 8] {
+    [
         DecimalCase::new(10, 9, 0, 0),
         DecimalCase::new(11, 9, 0, 0),
         DecimalCase::new(20, 0, 999_999_999_999_999_999, 0),
@@ -149,9 +134,5 @@ pub fn decimal_limits(rt: &impl Print) -> io::Result<()> {
         DecimalCase::new(20, 1, 99_999_999_999_999_999, 0),
         DecimalCase::new(20, 1, 100_000_000_000_000_000, 0),
         DecimalCase::new(3, 9, 999_999_999_999_999_999, 0),
-    ];
-    for case in cases {
-        case.show(rt)?;
-    }
-    Ok(())
+    ]
 }

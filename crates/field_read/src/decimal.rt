@@ -1,4 +1,5 @@
-// The decimal field.
+// The decimal field. (It has a point, and digits after it, which the integer field may not have: one reader for both would
+// take a flag that forbids the point.)
 ghost use Rattle.std.specs.Prelude.{◌≡◌};
 ghost use Rattle.field_written.specs.Numeral.{F};
 ghost use Rattle.field_read.specs.Read.{unblanked, read_digits, read_field};
@@ -8,6 +9,7 @@ use crate::answer::number_of;
 use crate::digits::read_run;
 use crate::leading::read_front;
 use field_written::Sign;
+use field_written::signed::Signed;
 use number::MOST_PLACES;
 
 // The digits of a decimal, with a point or d places, after its sign.
@@ -16,7 +18,11 @@ fn read_units(part: &[u8], sign: Sign, d: usize) -> Option<Number>
 {
     let whole = read_run(part, 0)?;
     let [point, after @ ..] = whole.rest else {
-        return number_of(whole.count, sign, whole.value, d);
+        let n = Signed {
+            sign,
+            magnitude: whole.value,
+        };
+        return number_of(whole.count, n, d);
     };
     if *point != b'.' {
         return None;
@@ -29,7 +35,11 @@ fn read_units(part: &[u8], sign: Sign, d: usize) -> Option<Number>
     if MOST_PLACES < places {
         return None;
     }
-    number_of(whole.count + places, sign, fraction.value, places)
+    let n = Signed {
+        sign,
+        magnitude: fraction.value,
+    };
+    number_of(whole.count + places, n, places)
 }
 
 // A field read under Fw.d.

@@ -8,6 +8,7 @@ use crate::answer::number_of;
 use crate::digits::read_run;
 use crate::leading::read_front;
 use field_written::Sign;
+use field_written::signed::Signed;
 
 // The digits of an integer, after its sign.
 fn read_whole(part: &[u8], sign: Sign) -> Option<Number>
@@ -17,7 +18,11 @@ fn read_whole(part: &[u8], sign: Sign) -> Option<Number>
     if !whole.rest.is_empty() {
         return None;
     }
-    number_of(whole.count, sign, whole.value, 0)
+    let n = Signed {
+        sign,
+        magnitude: whole.value,
+    };
+    number_of(whole.count, n, 0)
 }
 
 // A field read under Iw.

@@ -10,7 +10,8 @@ mod leading;
 pub mod logical;
 pub mod text;
 
-// A number read: its units, and its places (0 under I).
+// A number read: its units, and its places (0 under I). (A type of its own: an integer is read as one too, and `Decimal` is a list's
+// element alone.)
 #[derive(Clone, Copy, PartialEq, Eq, Debug)]
 pub struct Number {
     pub units: i64,

@@ -6,7 +6,7 @@ use Rattle.buffer.specs.Splice.{splice}
 use Rattle.number.specs.Magnitude.{negative}
 use Rattle.number.specs.Digits.{digits_of, digit_count}
 use Rattle.number.specs.Rounding.{rounded_units, too_large, too_large_error}
-use Rattle.field_written.specs.Numeral.{Numeric, I, F, places, layout, Setting, plain}
+use Rattle.field_written.specs.Numeral.{Numeric, F, places, layout, Setting, plain}
 use Rattle.field_written.specs.declared.Sign.{Sign}
 use Rattle.field_written.specs.declared.Sign.TheVariants.{None, Minus}
 use Rattle.number.specs.declared.TooLarge.{TooLarge}
@@ -58,10 +58,6 @@ field g f w n = field_text f w (sign_for g n) (nat_abs n)
 -- Term 'starred': no text fits, so that the field is w asterisks (the law `StarredIs` of `Promises`)
 unfoldable pub starred : Setting → Numeric → ℕ → ℤ → Bool
 starred g f w n = ltb w (fewest_columns f (sign_for g n) (nat_abs n))
-
--- the buffer after writing n under Iw from offset at on
-abbrev pub after_integer : Setting → List ℕ → ℕ → ℕ → ℤ → List ℕ
-after_integer g buffer at w n = splice buffer at (field g I w n)
 
 -- ---- the decimal u / 10^s under Fw.d
 

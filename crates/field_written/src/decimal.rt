@@ -7,24 +7,24 @@ ghost use Rattle.field_written.specs.Numeral.{F, plain, sign_bytes, layout};
 ghost use Rattle.field_written.specs.Written.{fewest_columns, field_text, put_decimal, decimal_part};
 
 use crate::Sign;
-use crate::columns::decimal_columns;
+use crate::signed::Signed;
 use number::TooLarge;
 use number::put::put_digits;
 use number::rounding::round;
 use number::sign::stays_negative;
 
-// A sign, k digits, a point and d digits of m, from the last one on.
-fn put_numeral(part: &mut [u8], sign: Sign, k: usize, d: usize, m: u64)
-    requires { length part.old ≡ length (sign_bytes sign) + k + 1 + d }
-    ensures { part.new ≡ layout (F d) 0 sign (digits_of k (m / 10 ^ d)) (digits_of d m) }
+// The sign of n, k digits, a point and d digits, from the last one on.
+fn put_numeral(part: &mut [u8], n: Signed, k: usize, d: usize)
+    requires { length part.old ≡ length (sign_bytes n.sign) + k + 1 + d }
+    ensures { part.new ≡ layout (F d) 0 n.sign (digits_of k (n.magnitude / 10 ^ d)) (digits_of d n.magnitude) }
 {
-    let (front, rest) = part.split_at_mut(sign.width());
+    let (front, rest) = part.split_at_mut(n.sign.width());
     let (whole, rest) = rest.split_at_mut(k);
     let (point, fraction) = rest.split_at_mut(1);
-    let before = put_digits(fraction, m);
+    let before = put_digits(fraction, n.magnitude);
     point[0] = b'.';
     put_digits(whole, before);
-    sign.put(front);
+    n.sign.put(front);
 }
 
 // The digits before the point: where there are none, a zero if a column is free.
@@ -35,20 +35,21 @@ fn shown_digits(few: usize, free: usize) -> usize
 }
 
 // The numeral, right justified; it takes `need` columns at least, which are there.
-fn put_decimal(part: &mut [u8], need: usize, sign: Sign, d: usize, m: u64)
+fn put_decimal(part: &mut [u8], need: usize, n: Signed, d: usize)
     requires room { need ≤ length part.old }
-    requires needed { need ≡ fewest_columns (F d) sign m }
-    ensures { part.new ≡ field_text (F d) (length part.old) sign m }
+    requires needed { need ≡ fewest_columns (F d) n.sign n.magnitude }
+    ensures { part.new ≡ field_text (F d) (length part.old) n.sign n.magnitude }
 {
-    let rest = sign.width() + 1 + d;
+    let rest = n.sign.width() + 1 + d;
     let k = shown_digits(need - rest, part.len() - need);
     let free = part.len() - rest - k;
     let (blanks, numeral) = part.split_at_mut(free);
     blanks.fill(b' ');
-    put_numeral(numeral, sign, k, d, m);
+    put_numeral(numeral, n, k, d);
 }
 
-// units / 10^places, rounded to d places, under Fw.d, w the columns of the part; whether the field is starred.
+// units / 10^places, rounded to d places, under Fw.d, w the columns of the part; whether the field is starred. (Units and places:
+// as in `number::rounding`.)
 pub fn write_decimal(part: &mut [u8], d: usize, units: i64, places: usize) -> Result<bool, TooLarge>
     requires wanted { d ≤ most_places }
     requires magnitude { nat_abs units ≤ largest }
@@ -60,11 +61,12 @@ pub fn write_decimal(part: &mut [u8], d: usize, units: i64, places: usize) -> Re
     let m = units.unsigned_abs();
     let v = round(m, places, d)?;
     let sign = Sign::of_negative(stays_negative(negative, v));
-    let need = decimal_columns(sign, d, v);
+    let shown = Signed { sign, magnitude: v };
+    let need = shown.decimal_columns(d);
     if part.len() < need {
         part.fill(b'*');
         return Ok(true);
     }
-    put_decimal(part, need, sign, d, v);
+    put_decimal(part, need, shown, d);
     Ok(false)
 }

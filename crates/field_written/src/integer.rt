@@ -5,21 +5,21 @@ ghost use Rattle.field_written.specs.Numeral.{I, plain};
 ghost use Rattle.field_written.specs.Written.{fewest_columns, field_text, field, starred};
 
 use crate::Sign;
-use crate::columns::integer_columns;
+use crate::signed::Signed;
 use number::put::put_digits;
 
 // The numeral, right justified; it takes `need` columns, which are there.
-fn put_integer(part: &mut [u8], need: usize, sign: Sign, m: u64)
+fn put_integer(part: &mut [u8], need: usize, n: Signed)
     requires room { need ≤ length part.old }
-    requires needed { need ≡ fewest_columns I sign m }
-    ensures { part.new ≡ field_text I (length part.old) sign m }
+    requires needed { need ≡ fewest_columns I n.sign n.magnitude }
+    ensures { part.new ≡ field_text I (length part.old) n.sign n.magnitude }
 {
     let free = part.len() - need;
     let (blanks, numeral) = part.split_at_mut(free);
-    let (front, digits) = numeral.split_at_mut(sign.width());
+    let (front, digits) = numeral.split_at_mut(n.sign.width());
     blanks.fill(b' ');
-    sign.put(front);
-    put_digits(digits, m);
+    n.sign.put(front);
+    put_digits(digits, n.magnitude);
 }
 
 // n under Iw, w the columns of the part; whether the field is starred.
@@ -29,12 +29,13 @@ pub fn write_integer(part: &mut [u8], n: i64) -> bool
     ensures laid { part.new ≡ field plain I (length part.old) n }
 {
     let sign = Sign::of_negative(n.is_negative());
-    let m = n.unsigned_abs();
-    let need = integer_columns(sign, m);
+    let magnitude = n.unsigned_abs();
+    let shown = Signed { sign, magnitude };
+    let need = shown.integer_columns();
     if part.len() < need {
         part.fill(b'*');
         return true;
     }
-    put_integer(part, need, sign, m);
+    put_integer(part, need, shown);
     false
 }

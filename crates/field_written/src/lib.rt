@@ -2,10 +2,10 @@
 // buffer that is lent to it.
 #![tactic(auto)]
 
-mod columns;
 pub mod decimal;
 pub mod integer;
 pub mod logical;
+pub mod signed;
 pub mod text;
 
 // The sign in front of a numeral.

@@ -5,6 +5,6 @@ use std::io;
 pub fn show_check(rt: &impl Print, format: &[u8]) -> io::Result<()> {
     match format_check::check::check(format) {
         Ok(()) => println!(rt; "accepted"),
-        Err(refusal) => rt.println(Refused::from(refusal)),
+        Err(refusal) => rt.println(Refused(refusal.into())),
     }
 }

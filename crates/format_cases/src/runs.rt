@@ -1,10 +1,10 @@
 // The items met.
-use format_items::LONGEST_FORMAT;
+use format_items::{LARGEST_SIZE, LONGEST_FORMAT};
 use format_load::load::load;
 use format_words::{Entry, Word};
 use std::io;
 
-// A literal's characters; none where they are not all there.
+// A literal's characters; none where they are not all there. They need be no text, so no `Display` can write them.
 fn show_literal(rt: &impl Print, chars: &[u8], start: usize, len: usize) -> io::Result<()> {
     let literal = chars.get(start..).and_then(|rest| rest.get(..len));
     rt.write_all(b"<")?;
@@ -32,12 +32,9 @@ fn show_word(rt: &impl Print, word: Word, chars: &[u8]) -> io::Result<()> {
 
 // The items met of a format.
 pub fn show_run(rt: &impl Print, format: &[u8]) -> io::Result<()> {
-    let mut entries = [Entry::Item {
-        word: Word::A,
-        repeat: 0,
-    }; LONGEST_FORMAT];
+    let mut entries = [Entry::ZERO; LONGEST_FORMAT];
     let mut chars = [0u8; LONGEST_FORMAT];
-    let mut words = [Word::A; 4096];
+    let mut words = [Word::ZERO; LARGEST_SIZE];
     match load(format, &mut entries, &mut chars, &mut words) {
         Err(_) => println!(rt; "refused"),
         Ok(run) => {

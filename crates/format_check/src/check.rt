@@ -6,7 +6,7 @@ ghost use Rattle.format_check.specs.Checked.{answer, answer_number, answer_place
 
 use format_items::{FormatRefusal, LONGEST_FORMAT};
 use format_load::items::check_items;
-use format_words::{Entry, Word};
+use format_words::Entry;
 
 // Rows 3 to 5, for a text of at most N bytes: with room for the items of one so long. Not inlined, so that the stack of a call
 // holds the arrays of one size.
@@ -15,11 +15,7 @@ fn check_within<const N: usize>(text: &[u8]) -> Result<(), FormatRefusal>
     requires { (length text.now ≤ N) × (N ≤ longest_format) }
     ensures { result ≡ answer (outcome text.now) }
 {
-    let blank = Entry::Item {
-        word: Word::I { width: 0 },
-        repeat: 0,
-    };
-    let mut entries = [blank; N];
+    let mut entries = [Entry::ZERO; N];
     let mut chars = [0u8; N];
     check_items(text, &mut entries, &mut chars)?;
     Ok(())

@@ -5,7 +5,7 @@ use mathlib.Core.List.{List}
 use Prim.Native.Nat.{ℕ, ◌<◌, ◌≤◌}
 use native.Mathlib.Omega.{arith}
 use borrow.Author.Tests.{lt-ltb, le-ltb}
-use lib.ListN.{length, take}
+use lib.ListN.{length}
 use Rattle.std.specs.Prelude.{Option, Some, None}
 use Rattle.format_items.specs.Ranges.{numbers, first_outside}
 use Rattle.format_items.specs.Size.{size}
@@ -15,9 +15,7 @@ use Rattle.format_items.specs.declared.FormatRefusal.TheVariants.{Grammar, Range
 use Rattle.format_items.proofs.RangeLaws.{all_within}
 use Rattle.format_grammar.proofs.Promises.{outcome_short}
 use Rattle.format_words.specs.declared.Entry.{Entry}
-use Rattle.format_words.specs.Held.{SomeItems}
 use Rattle.format_run.specs.Sizes.{capped}
-use Rattle.format_run.specs.Runs.{SomeItemsFit}
 use Rattle.format_read.specs.declared.Position.{Position}
 use Rattle.format_read.specs.Whole.{ItemsRead}
 use Rattle.format_load.specs.ItemsChecked.{ItemsHeld}
@@ -56,11 +54,3 @@ module _ (s : List ℕ) (short : length s ≤ 1024) where
             sized = omega arith;
             small = g;
           }
-
-pub held : {s : List ℕ} {a : List Entry} {t : List ℕ} {p : Position} → ItemsRead s a t p → SomeItems (take p.entries a) 4
-held {t} {p} i = record { t = t; c = p.chars; items = i.read; holds = i.holds }
-
--- ---- room for the run of an accepted format
-
-pub items_fit : {s : List ℕ} {a : List Entry} {t : List ℕ} {n k : ℕ} → ItemsHeld s a t n k → (room : ℕ) → k ≤ room → SomeItemsFit (take n a) 4 room
-items_fit {t} i room h = record { t = t; c = i.c; items = i.items; holds = i.holds; ranges = i.ranges; fits = omega (arith, i.sized) }

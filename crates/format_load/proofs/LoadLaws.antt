@@ -1,11 +1,10 @@
 -- A run that was unrolled from the entries of an accepted format.
 -- Assumes nothing.
-use mathlib.Core.Path.{◌≡◌, ap}
+use mathlib.Core.Path.{◌≡◌}
 use mathlib.Core.List.{List, map}
-use Prim.Native.Nat.{ℕ, ◌≤◌}
+use Prim.Native.Nat.{ℕ}
 use native.Mathlib.Omega.{arith}
-use lib.ListN.{length, drop, length-map}
-use Rattle.format_items.specs.Items.{Items}
+use lib.ListN.{length, drop}
 use Rattle.format_items.specs.Met.{met, return_part, return_index}
 use Rattle.format_items.specs.MetRanges.{AllMetWithin}
 use Rattle.format_items.proofs.MetLaws.{return_index_is}
@@ -15,10 +14,6 @@ use Rattle.format_words.specs.declared.Word.{Word}
 use Rattle.format_words.specs.declared.Entry.{Entry}
 use Rattle.format_run.specs.Runs.{AreMet}
 use Rattle.format_load.specs.ItemsChecked.{ItemsHeld}
-
-index_low : (xs : Items) → return_index xs ≤ length (met xs)
-unfolding return_index
-index_low xs = omega arith
 
 module _ {s : List ℕ} {a : List Entry} {t : List ℕ} {n k : ℕ} (i : ItemsHeld s a t n k) where
   items_within : AllMetWithin (met i.items)
@@ -32,8 +27,5 @@ module _ {s : List ℕ} {a : List Entry} {t : List ℕ} {n k : ℕ} (i : ItemsHe
     run_within = rw r.mean items_within
 
     module _ {back : ℕ} (e : back ≡ return_index i.items) where
-      pub run_back : back ≤ length words
-      run_back = omega (arith, e, index_low i.items, length-map words (met_of t), ap length r.mean)
-
       pub run_returns : drop back (map (met_of t) words) ≡ met (return_part i.items)
       run_returns = rw (r.mean, e) (return_index_is i.items)

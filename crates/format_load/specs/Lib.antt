@@ -1,2 +1,3 @@
 pub mod ItemsChecked
+pub mod Lent
 pub mod Loaded

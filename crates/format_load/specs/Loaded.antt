@@ -1,6 +1,6 @@
 -- A format loaded: what its run of words means.
 -- Assumes nothing.
-use Rattle.std.specs.Prelude.{◌≡◌, List, map, ℕ, ◌≤◌, drop, Result, Ok, Err}
+use Rattle.std.specs.Prelude.{◌≡◌, List, map, ℕ, ◌≤◌, length, drop, Result, Ok, Err}
 use Rattle.format_items.specs.Items.{Items}
 use Rattle.format_items.specs.Met.{met, return_part}
 use Rattle.format_items.specs.Size.{largest_size}
@@ -20,8 +20,8 @@ pub record RunHeld (format : List ℕ) (r : Run) : Type 0 where
   pub return_to : drop r.back (map (met_of r.chars.now) r.words.now) ≡ met (return_part items)
 
 -- the refusal; or that arrays of these lengths (of entries, of characters, of words) are not all of the largest size that a
--- format may need; or the run
+-- format may need; or the run, which lies in its arrays
 abbrev pub loaded : List ℕ → ℕ → ℕ → ℕ → Result Run LoadError → Type 0
 loaded format e c n (Err (Refused why)) = outcome format ≡ refused why
 loaded format e c n (Err TooSmall) = longest_format ≤ e → longest_format ≤ c → largest_size ≤ n → ⊥
-loaded format e c n (Ok r) = RunHeld format r
+loaded format e c n (Ok r) = RunHeld format r × (length r.words.now ≤ n) × (length r.chars.now ≡ c)

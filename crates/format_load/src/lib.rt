@@ -4,12 +4,13 @@
 ghost use Rattle.std.specs.Prelude.{◌≡◌};
 ghost use Rattle.format_load.specs.declared.LoadError.TheVariants.{Refused};
 
+pub mod arrays;
 pub mod items;
 pub mod load;
 
 use format_items::FormatRefusal;
 
-// A format's items: how many entries hold them, and their size.
+// A format's items: how many entries hold them, in a lent array (fixed memory, so no `Vec`), and their size.
 #[derive(Clone, Copy, PartialEq, Eq, Debug)]
 pub struct CheckedItems {
     pub entries: usize,

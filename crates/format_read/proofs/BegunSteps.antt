@@ -24,8 +24,8 @@ use Rattle.format_read.proofs.SingleSteps.{Ends, one_missing, one_read, ends-T, 
 module _ {s : List ℕ} {from at : ℕ} {v : Option ℕ} (f : NumberFound s from v at) (h : at < length s) where
   -- a letter that a number follows
   pub begun_read : (u : Use) → ((l : ℕ) (xs : Items) (q : Open) → begun (number_at from v) at l xs q (get_or s at 0) ≡ State.within (Mode.digits u (at + 1) 0) l xs q)
-      → (o o₁ : Option ℕ) → o₁ ≡ outside_after o (repeat_numbers (number_at from v)) → (x : Result Single Ungrammatical) → ended s (at + 1) u (number_at from v) o₁ x → item_read s from (wanted from) [] (from + 1) o x
-  begun_read u g o o₁ out (Ok x) i =
+      → (o o₁ o₂ : Option ℕ) → o₁ ≡ outside_after o (repeat_numbers (number_at from v)) → (x : Result Single Ungrammatical) → ended s (at + 1) u (number_at from v) o₁ o₂ x → item_read s from (wanted from) [] (from + 1) o o₂ x
+  begun_read u g o o₁ o₂ out (Ok x) i =
       let k = number_at from v in
       record {
         item = i.item;
@@ -38,7 +38,7 @@ module _ {s : List ℕ} {from at : ℕ} {v : Option ℕ} (f : NumberFound s from
         more = omega (arith, f.low, i.more);
         high = i.high;
       }
-  begun_read u g o o₁ out (Err x) i = λ l xs q. number_on f Use.start h (λ l xs q. State.within (Mode.digits u (at + 1) 0) l xs q) g (λ l xs q a b. refl) l xs q ∙ i l xs q
+  begun_read u g o o₁ o₂ out (Err x) i = λ l xs q. number_on f Use.start h (λ l xs q. State.within (Mode.digits u (at + 1) 0) l xs q) g (λ l xs q a b. refl) l xs q ∙ i l xs q
 
   -- a byte that no item goes on with
   pub begun_stuck : ((l : ℕ) (xs : Items) (q : Open) → begun (number_at from v) at l xs q (get_or s at 0) ≡ State.dead) → Stuck s from (wanted from) at
@@ -87,13 +87,13 @@ X-read {s} {from} {v} {at} f h g o o₁ out =
 module _ {s : List ℕ} {from at high : ℕ} {v : Option ℕ} {u : Use} {k : Repeat} {w : ℕ → Word} (f : NumberFound s from v at) (h : at < length s) (is : k ≡ number_at from v) (e : Ends u k w high)
     (letter : (l : ℕ) (xs : Items) (q : Open) → begun (number_at from v) at l xs q (get_or s at 0) ≡ State.within (Mode.digits u (at + 1) 0) l xs q) where
   pub letter_missing : {x : Ungrammatical} → NumberFound s (at + 1) None x.place → (o : Option ℕ) → Stuck s from (wanted from) x.place
-  letter_missing {x} g o = begun_read f h u letter o _ refl (Err x) (one_missing e g)
+  letter_missing {x} g o = begun_read f h u letter o _ o refl (Err x) (one_missing e g)
 
-  pub letter_read : {x : Found} (o o₁ : Option ℕ) → o₁ ≡ outside_after o (repeat_numbers (number_at from v)) → found s (at + 1) high o₁ (Ok x) → (r : ℕ) → times k ≡ r
-      → ItemRead s from (wanted from) [] (from + 1) o (w x.value) r x.next x.outside
-  letter_read {x} o o₁ out g r rep =
-      begun_read f h u letter o o₁ out (Ok (record { word = w x.value; repeat = r; next = x.next; outside = x.outside }))
-      (subst (λ z. ItemRead s (at + 1) (Mode.digits u (at + 1) 0) (repeat_numbers z) (at + 1) o₁ (w x.value) r x.next x.outside) is (one_read e g.0 r rep o₁ x.outside g.1))
+  pub letter_read : {x : Found} (o o₁ o₂ : Option ℕ) → o₁ ≡ outside_after o (repeat_numbers (number_at from v)) → found s (at + 1) high o₁ o₂ (Ok x) → (r : ℕ) → times k ≡ r
+      → ItemRead s from (wanted from) [] (from + 1) o (w x.value) r x.next o₂
+  letter_read {x} o o₁ o₂ out g r rep =
+      begun_read f h u letter o o₁ o₂ out (Ok (record { word = w x.value; repeat = r; next = x.next }))
+      (subst (λ z. ItemRead s (at + 1) (Mode.digits u (at + 1) 0) (repeat_numbers z) (at + 1) o₁ (w x.value) r x.next o₂) is (one_read e g.0 r rep o₁ o₂ g.1))
 
 -- T: no digit may stand before it
 pub T-after_digits : {s : List ℕ} {from at : ℕ} {v : Option ℕ} → NumberFound s from v at → at < length s → get_or s at 0 ≡ 84 → is_some v ≡ true → Stuck s from (wanted from) at
@@ -114,6 +114,6 @@ module _ {s : List ℕ} {from at : ℕ} {v : Option ℕ} (f : NumberFound s from
   pub T-missing : {x : Ungrammatical} → NumberFound s (at + 1) None x.place → (o : Option ℕ) → Stuck s from (wanted from) x.place
   T-missing m o = letter_missing f h absent_is ends-T column_on m o
 
-  pub T-read : {x : Found} (o o₁ : Option ℕ) → o₁ ≡ outside_after o (repeat_numbers (number_at from v)) → found s (at + 1) 255 o₁ (Ok x)
-      → ItemRead s from (wanted from) [] (from + 1) o (word.T x.value) 1 x.next x.outside
-  T-read o o₁ out m = letter_read f h absent_is ends-T column_on o o₁ out m 1 refl
+  pub T-read : {x : Found} (o o₁ o₂ : Option ℕ) → o₁ ≡ outside_after o (repeat_numbers (number_at from v)) → found s (at + 1) 255 o₁ o₂ (Ok x)
+      → ItemRead s from (wanted from) [] (from + 1) o (word.T x.value) 1 x.next o₂
+  T-read o o₁ o₂ out m = letter_read f h absent_is ends-T column_on o o₁ o₂ out m 1 refl

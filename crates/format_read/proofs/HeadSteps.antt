@@ -2,11 +2,11 @@
 -- Assumes nothing.
 use mathlib.Core.Path.{◌≡◌, refl, sym, ◌∙◌}
 use mathlib.Core.Logic.{⊎_elim}
-use mathlib.Core.Bool.{Bool, true, false, ◌||◌}
+use mathlib.Core.Bool.{true, ◌||◌}
 use mathlib.Core.List.{List}
 use Prim.Native.Nat.{ℕ, ◌+◌, ◌-◌, ◌<◌}
 use native.Mathlib.Omega.{arith}
-use borrow.Author.Tests.{eq-eqb, ne_eqb, eqb-false}
+use borrow.Author.Tests.{eq-eqb, ne_eqb}
 use lib.Dec.{eqb}
 use lib.ListN.{length, get_or}
 use Rattle.std.specs.Prelude.{Option, Some, None, is_some, unwrap_or}
@@ -14,35 +14,36 @@ use Rattle.format_items.specs.Items.{Items}
 use Rattle.format_items.specs.Ranges.{repeat_numbers}
 use Rattle.format_grammar.specs.Reading.{Use, Open, State, Reading, wanted, read_at}
 use Rattle.format_words.specs.declared.Entry.{Entry}
-use Rattle.format_read.specs.Steps.{number_at, NumberFound, outside_after, Stuck, NoBracketOrMark, Opened}
+use Rattle.format_read.specs.Steps.{number_at, NumberFound, outside_after, Stuck, Opened}
 use Rattle.format_read.specs.declared.Position.{Position}
 use Rattle.format_grammar.proofs.Cases.{is_mark}
 use Rattle.format_read.proofs.SingleSteps.{times_at, number_stuck_at, number_on_at}
 use Rattle.format_read.proofs.BegunSteps.{begun_stuck}
+use Rattle.format_read.proofs.TakeSteps.{Moved}
 
 -- ---- an opening bracket
 
-module _ {s : List ℕ} {at l : ℕ} {v : Option ℕ} (p : Position) (f : NumberFound s p.at v at) (h : at < length s) (e : get_or s at 0 ≡ 40) where
+module _ {at l : ℕ} {v : Option ℕ} (p : Position) (f : NumberFound p.text.now p.at v at) (h : at < length p.text.now) (e : get_or p.text.now at 0 ≡ 40) where
   -- no level is left
-  pub too_deep : l ≡ 0 → (xs : Items) (q : Open) → read_at s p.at (State.within (wanted p.at) l xs q) ≡ Reading.wrong at
+  pub too_deep : l ≡ 0 → (xs : Items) (q : Open) → read_at p.text.now p.at (State.within (wanted p.at) l xs q) ≡ Reading.wrong at
   too_deep z xs q = number_stuck_at f Use.start l xs q (rw (e, eq-eqb l 0 z))
 
-  pub opened : (l ≡ 0 → ⊥) → (r : ℕ) (o : Option ℕ) → r ≡ unwrap_or v 1 → o ≡ outside_after p.outside (repeat_numbers (number_at p.at v)) → (a : List Entry) (t : List ℕ)
-      → Opened s l p (record { at = at + 1; entries = p.entries + 1; chars = p.chars; outside = o }) r a t a t
-  opened z r o rep out a t =
+  pub opened : {inside : Position} → (l ≡ 0 → ⊥) → (r : ℕ) (o : Option ℕ) → r ≡ unwrap_or v 1 → o ≡ outside_after p.outside (repeat_numbers (number_at p.at v))
+      → Moved p (at + 1) (p.entries + 1) p.chars o inside → (a : List Entry) (t : List ℕ) → Opened l p inside r a t a t
+  opened {inside} z r o rep out m a t =
       let k = number_at p.at v in
       record {
         k = k;
         repeats = times_at p.at v ∙ sym rep;
-        runs = λ xs q. number_on_at f Use.start h l xs q (State.within (wanted (at + 1)) (l - 1) Items.none (Open.group xs k q)) (rw (e, ne_eqb l 0 z)) (λ a b. refl);
-        outside_is = out;
+        runs = λ xs q. rw m.at_is (number_on_at f Use.start h l xs q (State.within (wanted (at + 1)) (l - 1) Items.none (Open.group xs k q)) (rw (e, ne_eqb l 0 z)) (λ a b. refl));
+        outside_is = m.outside_is ∙ out;
         same_entries = refl;
         same_chars = refl;
-        entries_are = refl;
-        chars_are = refl;
+        same_text = m.same_text;
+        entries_are = m.entries_are;
+        chars_are = m.chars_are;
         deep = omega arith;
-        more = omega (arith, f.low);
-        high = omega arith;
+        more = omega (arith, m.at_is, f.low);
       }
 
 -- ---- a mark
@@ -51,13 +52,3 @@ module _ {s : List ℕ} {at l : ℕ} {v : Option ℕ} (p : Position) (f : Number
 pub mark_after_digits : {s : List ℕ} {from at : ℕ} {v : Option ℕ} → NumberFound s from v at → at < length s → is_some v ≡ true → (eqb (get_or s at 0) 39 || eqb (get_or s at 0) 34) ≡ true → Stuck s from (wanted from) at
 mark_after_digits {v = None} f h z e = absurd (cc)
 mark_after_digits {s} {at = at} {v = Some v} f h z e = ⊎_elim (λ m. begun_stuck f h (λ l xs q. rw m)) (λ m. begun_stuck f h (λ l xs q. rw m)) (is_mark (get_or s at 0) e)
-
--- neither a bracket nor a mark
-or_false : (a b : Bool) → (a || b) ≡ false → (a ≡ false) × (b ≡ false)
-or_false true b e = (e, (cc))
-or_false false b e = (refl, e)
-
-pub no_bracket_or_mark : (b : ℕ) → (b ≡ 40 → ⊥) → (eqb b 39 || eqb b 34) ≡ false → NoBracketOrMark b
-no_bracket_or_mark b h e =
-    let g = or_false (eqb b 39) (eqb b 34) e in
-    record { no_bracket = h; no_apostrophe = eqb-false b 39 g.0; no_quotation_mark = eqb-false b 34 g.1 }

@@ -2,7 +2,7 @@
 -- Assumes nothing.
 use mathlib.Core.Path.{◌≡◌, refl, sym, ◌∙◌}
 use mathlib.Core.Bool.{true, false}
-use mathlib.Core.List.{List, [], ◌∷◌, ◌++◌, append_assoc, append-nil}
+use mathlib.Core.List.{List, [], ◌∷◌, ◌++◌, append_assoc}
 use Prim.Native.Nat.{ℕ, ◌+◌, ◌<◌, ◌≤◌}
 use native.Mathlib.Numerals.{add-one}
 use native.Mathlib.Omega.{arith}
@@ -25,10 +25,6 @@ pub record LiteralSoFar (s : List ℕ) (at m : ℕ) (t : List ℕ) (c : ℕ) (u 
   pub low : at ≤ p
   pub high : p ≤ length s
   pub fewer : n ≤ p
-
-pub literal_none : (s : List ℕ) (at m : ℕ) (t : List ℕ) (c : ℕ) → at ≤ length s → c ≤ at → LiteralSoFar s at m t c t at c
-literal_none s at m t c h g =
-    record { characters = []; runs = λ l xs q. refl; are = sym (append-nil (take c t)); end_is = omega arith; long = refl; low = omega arith; high = h; fewer = g }
 
 -- one character more
 added : (t u : List ℕ) (c n b : ℕ) (cs : List ℕ) → n < length u → take n u ≡ take c t ++ cs → take (n + 1) (set u n b) ≡ take c t ++ (cs ++ b ∷ [])

@@ -12,7 +12,7 @@ use Rattle.std.specs.Prelude.{Option, Some, None, is_some, unwrap_or, Result, Er
 use Rattle.std.specs.Option.{ok_or}
 use Rattle.std.proofs.lemmas.Result.{err_from_is_err_and}
 use Rattle.format_items.specs.Items.{Number, number, value_of, Repeat, times, Field, Items, join}
-use Rattle.format_items.specs.Ranges.{Ranged, ranged, repeat_numbers, numbers}
+use Rattle.format_items.specs.Ranges.{Ranged, ranged, repeat_numbers, field_numbers, numbers}
 use Rattle.format_items.specs.Met.{Met}
 use Rattle.format_grammar.specs.Reading.{Use, Mode, Open, State, Reading, pick, step, step_within, unless_dead, used, separated, read_at}
 use Rattle.format_grammar.proofs.ReadLaws.{read_step, read_end, read_same, read_stuck, step_used}
@@ -127,29 +127,28 @@ module _ {s : List ℕ} {at next : ℕ} {u : Use} {k : Repeat} {w : ℕ → Word
 
 -- ---- what each letter asks for
 
+-- a field of one width
+module _ {u : Use} {k : Repeat} {w : ℕ → Word} (field : Number → Field Number) where
+  ends_field : ((at l : ℕ) (xs : Items) (q : Open) (b : ℕ) → used u Repeat.absent at l xs q b ≡ State.dead)
+      → ((n : Number) (at l : ℕ) (xs : Items) (q : Open) (b : ℕ) → used u (Repeat.given n) at l xs q b ≡ separated at l (join xs (Items.field k (field n) Items.none)) q b)
+      → ((t : List ℕ) (n : Number) → First (Items.field k (field n) Items.none) (times k) (met_of t (w (value_of n))) Items.none)
+      → ((v : ℕ) → reach (w v) ≡ 0) → ((n : Number) → field_numbers (field n) ≡ ranged n 1 64 ∷ []) → Ends u k w 64
+  unfolding numbers
+  ends_field needed enough first none ranges =
+      record {
+        item = λ n. Items.field k (field n) Items.none;
+        needed = needed;
+        enough = enough;
+        first = first;
+        no_characters = none;
+        numbers_are = λ n. rw (ranges n) (append-nil (repeat_numbers k ++ ranged n 1 64 ∷ []));
+      }
+
 pub ends-I : (k : Repeat) → Ends (Use.width_i k) k word.I 64
-unfolding numbers
-ends-I k =
-    record {
-      item = λ w. Items.field k (Field.I w) Items.none;
-      needed = λ at l xs q b. refl;
-      enough = λ n at l xs q b. refl;
-      first = λ t n. First.field;
-      no_characters = λ v. refl;
-      numbers_are = λ n. append-nil (repeat_numbers k ++ ranged n 1 64 ∷ []);
-    }
+ends-I k = ends_field Field.I (λ at l xs q b. refl) (λ n at l xs q b. refl) (λ t n. First.field) (λ v. refl) (λ n. refl)
 
 pub ends-L : (k : Repeat) → Ends (Use.width_l k) k word.L 64
-unfolding numbers
-ends-L k =
-    record {
-      item = λ w. Items.field k (Field.L w) Items.none;
-      needed = λ at l xs q b. refl;
-      enough = λ n at l xs q b. refl;
-      first = λ t n. First.field;
-      no_characters = λ v. refl;
-      numbers_are = λ n. append-nil (repeat_numbers k ++ ranged n 1 64 ∷ []);
-    }
+ends-L k = ends_field Field.L (λ at l xs q b. refl) (λ n at l xs q b. refl) (λ t n. First.field) (λ v. refl) (λ n. refl)
 
 pub ends-T : Ends Use.column Repeat.absent word.T 255
 unfolding numbers

@@ -23,7 +23,7 @@ use Rattle.format_words.specs.declared.Entry.{Entry}
 use Rattle.format_words.specs.declared.Entry.TheVariants as entry
 use Rattle.format_words.specs.Held.{First, Holds}
 use Rattle.format_words.proofs.HeldLaws.{slice_kept}
-use Rattle.format_read.specs.Steps.{outside_after, ItemRead, LiteralFound, Room, between, Took, Stuck}
+use Rattle.format_read.specs.Steps.{outside_after, ItemRead, LiteralFound, between, Took, Stuck}
 use Rattle.format_read.specs.declared.Position.{Position}
 
 -- ---- the entries from one on up to another
@@ -47,24 +47,39 @@ between_kept a b n m k g h e = slice_kept n (m - n) k a b (omega arith) e
 pub between_long : (a : List Entry) (n m : ℕ) → n ≤ m → m ≤ length a → length (between n m a) ≡ m - n
 between_long a n m g h = length-take-le (m - n) (drop n a) (omega (arith, length-drop n a))
 
+-- ---- positions in one text
+
+pub within_text : (p p' : Position) → p'.text ≡ p.text → p'.at ≤ length p.text.now
+within_text p p' e = rw e at p'.within
+
+-- the same text, with these numbers
+pub record Moved (p : Position) (at entries chars : ℕ) (outside : Option ℕ) (p' : Position) : Type 0 where
+  pub same_text : p'.text ≡ p.text
+  pub at_is : p'.at ≡ at
+  pub entries_are : p'.entries ≡ entries
+  pub chars_are : p'.chars ≡ chars
+  pub outside_is : p'.outside ≡ outside
+
+pub moved : {p p' : Position} → p'.text ≡ p.text → Moved p p'.at p'.entries p'.chars p'.outside p'
+moved e = record { same_text = e; at_is = refl; entries_are = refl; chars_are = refl; outside_is = refl }
+
 -- ---- an item that is neither a group nor a literal
 
-pub took_single : {s : List ℕ} {l : ℕ} {p : Position} {a b : List Entry} {w : Word} {r next : ℕ} {o : Option ℕ} → Room s p a → ItemRead s p.at (wanted p.at) [] (p.at + 1) p.outside w r next o
-    → b ≡ set a p.entries (entry.Item w r) → (t : List ℕ) → Took s l (wanted p.at) (State.within Mode.after) p a t (record { at = next; entries = p.entries + 1; chars = p.chars; outside = o }) b t
-took_single {l} {p} {a} {w} {r} room i e t =
+pub took_single : {l : ℕ} {p p' : Position} {a b : List Entry} {w : Word} {r next : ℕ} {o : Option ℕ} → length p.text.now ≤ length a → ItemRead p.text.now p.at (wanted p.at) [] (p.at + 1) p.outside w r next o
+    → Moved p next (p.entries + 1) p.chars o p' → b ≡ set a p.entries (entry.Item w r) → (t : List ℕ) → Took l (wanted p.at) (State.within Mode.after) p a t p' b t
+took_single {l} {p} {p'} {a} {b} {w} {r} {next} {o} fit i m e t =
+    let more : p.at < p'.at = omega (arith, m.at_is, i.more) in
     record {
       items = i.item;
-      runs = i.runs l;
-      holds = rw (e, between_one a p.entries (entry.Item w r) (omega (arith, room.few_entries, room.entries_fit, i.more, i.high))) (Holds.item (i.first t) (omega (arith, i.no_characters)) Holds.none);
+      runs = λ xs q. rw m.at_is (i.runs l xs q);
+      holds = rw (m.entries_are, e, between_one a p.entries (entry.Item w r) (omega (arith, p.few_entries, fit, i.more, i.high))) (Holds.item (i.first t) (omega (arith, i.no_characters)) Holds.none);
       entries_kept = ap (take p.entries) e ∙ take-set-le p.entries a p.entries (entry.Item w r) (omega arith);
       chars_kept = refl;
-      outside_is = i.outside_is ∙ ap (outside_after p.outside) (sym i.numbers_are);
-      more = omega (arith, i.more);
-      high = i.high;
-      few_entries = omega (arith, i.more, room.few_entries);
-      few_chars = omega (arith, i.more, room.few_chars);
-      more_entries = omega arith;
-      more_chars = omega arith;
+      outside_is = m.outside_is ∙ i.outside_is ∙ ap (outside_after p.outside) (sym i.numbers_are);
+      same_text = m.same_text;
+      more = more;
+      more_entries = omega (arith, m.entries_are);
+      more_chars = omega (arith, m.chars_are);
     }
 
 -- ---- a literal
@@ -83,30 +98,27 @@ chars_before : (t u : List ℕ) (c end : ℕ) (cs : List ℕ) → c ≤ length t
 chars_before t u c end cs h e f =
     sym (take-take c end u (omega arith)) ∙ ap (take c) f ∙ take-append-le c (take c t) cs (omega (arith, length-take-le c t h)) ∙ take-take c c t (omega arith)
 
-module _ {s : List ℕ} {p : Position} {a : List Entry} {t u : List ℕ} {m next end : ℕ} (room : Room s p a) (fits : length s ≤ length t) (f : LiteralFound s (p.at + 1) m t p.chars u next end)
-    (h : p.at < length s) (e : get_or s p.at 0 ≡ m) (k : (eqb m 39 || eqb m 34) ≡ true) where
-  pub took_literal : (l : ℕ) (b : List Entry) → b ≡ set a p.entries (entry.Item (word.Literal p.chars (end - p.chars)) 1)
-      → Took s l (wanted p.at) (State.within Mode.after) p a t (record { at = next; entries = p.entries + 1; chars = end; outside = p.outside }) b u
+module _ {p p' : Position} {a : List Entry} {t u : List ℕ} {m next end : ℕ} (fit : length p.text.now ≤ length a) (fits : length p.text.now ≤ length t) (f : LiteralFound p.text.now (p.at + 1) m t p.chars u next end)
+    (h : p.at < length p.text.now) (e : get_or p.text.now p.at 0 ≡ m) (k : (eqb m 39 || eqb m 34) ≡ true) (n : Moved p next (p.entries + 1) end p.outside p') where
+  pub took_literal : (l : ℕ) (b : List Entry) → b ≡ set a p.entries (entry.Item (word.Literal p.chars (end - p.chars)) 1) → Took l (wanted p.at) (State.within Mode.after) p a t p' b u
   unfolding numbers outside_after
   took_literal l b g =
       let c = p.chars in
-      let small : c ≤ length t = omega (arith, room.few_chars) in
+      let small : c ≤ length t = omega (arith, p.few_chars) in
       let x = entry.Item (word.Literal c (end - c)) 1 in
       let first : First (Items.literal f.characters Items.none) 1 (Met.literal (take (end - c) (drop c u))) Items.none = rw (text_at t u c end f.characters small f.end_is f.are) First.literal in
       record {
         items = Items.literal f.characters Items.none;
-        runs = λ xs q. literal_begun s p.at m h e k l xs q ∙ f.runs l xs q;
-        holds = rw (g, between_one a p.entries x (omega (arith, room.few_entries, room.entries_fit)))
+        runs = λ xs q. rw n.at_is (literal_begun p.text.now p.at m h e k l xs q ∙ f.runs l xs q);
+        holds = rw (n.entries_are, n.chars_are, g, between_one a p.entries x (omega (arith, p.few_entries)))
             (Holds.item {w = word.Literal c (end - c)} first (omega (arith, f.end_is)) Holds.none);
         entries_kept = ap (take p.entries) g ∙ take-set-le p.entries a p.entries x (omega arith);
         chars_kept = chars_before t u c end f.characters small f.end_is f.are;
-        outside_is = refl;
-        more = omega (arith, f.more);
-        high = f.high;
-        few_entries = omega (arith, room.few_entries, f.more);
-        few_chars = omega (arith, f.room);
-        more_entries = omega arith;
-        more_chars = omega (arith, f.end_is);
+        outside_is = n.outside_is;
+        same_text = n.same_text;
+        more = omega (arith, n.at_is, f.more);
+        more_entries = omega (arith, n.entries_are);
+        more_chars = omega (arith, n.chars_are, f.end_is);
       }
 
 -- a literal that goes wrong

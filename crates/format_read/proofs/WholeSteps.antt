@@ -17,6 +17,7 @@ use Rattle.format_words.specs.Held.{Holds}
 use Rattle.format_read.specs.Steps.{outside_after, Took}
 use Rattle.format_read.specs.Whole.{ItemsRead}
 use Rattle.format_read.specs.declared.Position.{Position}
+use Rattle.format_read.proofs.TakeSteps.{within_text}
 
 -- ---- the first number out of range
 
@@ -49,19 +50,29 @@ module _ (s : List ℕ) where
     pub whole_wrong : {x : ℕ} → ((xs : Items) (q : Open) → read_at s 1 (State.within (wanted 1) 4 xs q) ≡ Reading.wrong x) → reading s ≡ Reading.wrong x
     whole_wrong w = whole_begun ∙ w Items.none Open.format
 
-    module _ {p : Position} {a b : List Entry} {t u : List ℕ} (k : Took s 4 (wanted 1) close (record { at = 1; entries = 0; chars = 0; outside = None }) a t p b u) where
-      pub whole_more : p.at < length s → reading s ≡ Reading.wrong p.at
-      unfolding join step
-      whole_more g = whole_begun ∙ k.runs Items.none Open.format ∙ read_dead s p.at (State.end k.items) g refl
+-- after the first bracket, at which there are no entries and characters yet
+pub record First (p : Position) : Type 0 where
+  pub at_is : p.at ≡ 1
+  pub no_entries : p.entries ≡ 0
+  pub no_chars : p.chars ≡ 0
+  pub none_outside : p.outside ≡ None
 
-      pub whole_read : length s ≤ p.at → ItemsRead s b u p
-      unfolding join
-      whole_read g =
-          record {
-            read = k.items;
-            is = whole_begun ∙ k.runs Items.none Open.format ∙ read_end s p.at (State.end k.items) g;
-            holds = let all : p.entries - 0 ≡ p.entries = omega arith in subst (λ (n : ℕ). Holds u p.chars 4 (take n b) k.items) all k.holds;
-            outside_is = k.outside_is ∙ outside_first (numbers k.items);
-            few_entries = omega (arith, k.few_entries, k.high);
-            few_chars = omega (arith, k.few_chars, k.high);
-          }
+module _ {p p' : Position} (f : First p) (h : 0 < length p.text.now) (e : get_or p.text.now 0 0 ≡ 40) {a b : List Entry} {t u : List ℕ} (k : Took 4 (wanted p.at) close p a t p' b u) where
+  runs : reading p.text.now ≡ read_at p.text.now p'.at (close 4 (join Items.none k.items) Open.format)
+  runs = whole_begun p.text.now h e ∙ rw f.at_is at (k.runs Items.none Open.format)
+
+  pub whole_more : p'.at < length p.text.now → reading p.text.now ≡ Reading.wrong p'.at
+  unfolding join step
+  whole_more g = runs ∙ read_dead p.text.now p'.at (State.end k.items) g refl
+
+  pub whole_read : length p.text.now ≤ p'.at → ItemsRead p.text.now b u p'
+  unfolding join
+  whole_read g =
+      record {
+        read = k.items;
+        is = runs ∙ read_end p.text.now p'.at (State.end k.items) g;
+        holds = let all : p'.entries - 0 ≡ p'.entries = omega arith in subst (λ (n : ℕ). Holds u p'.chars 4 (take n b) k.items) all (rw f.no_entries at k.holds);
+        outside_is = k.outside_is ∙ rw f.none_outside (outside_first (numbers k.items));
+        few_entries = omega (arith, p'.few_entries, within_text p p' k.same_text);
+        few_chars = omega (arith, p'.few_chars, within_text p p' k.same_text);
+      }

@@ -30,7 +30,7 @@ pub record NumberFound (s : List ℕ) (at : ℕ) (value : Option ℕ) (next : �
   pub runs : (u : Use) (l : ℕ) (xs : Items) (q : Open) → read_at s at (State.within (Mode.digits u at 0) l xs q) ≡ read_at s next (State.within (Mode.digits u at (unwrap_or value 0)) l xs q)
   pub stops : next < length s → (ltb next (at + 3) && is_digit (get_or s next 0)) ≡ false
   pub number_is : written at next (unwrap_or value 0) ≡ number_at at value
-  pub empty : value ≡ None → next ≡ at
+  pub small : unwrap_or value 0 < 1000
   pub low : at ≤ next
   pub high : next ≤ length s
 
@@ -44,9 +44,9 @@ outside_after o [] = o
 outside_after o (n ∷ ns) = outside_after (keep_first o n) ns
 
 -- a number from 1 to `high` that is there; none
-abbrev pub found : List ℕ → ℕ → ℕ → Option ℕ → Result Found Ungrammatical → Type 0
-found s at high o (Ok x) = NumberFound s at (Some x.value) x.next × (x.outside ≡ keep_first o (ranged (number at x.value) 1 high))
-found s at high o (Err e) = NumberFound s at None e.place
+abbrev pub found : List ℕ → ℕ → ℕ → Option ℕ → Option ℕ → Result Found Ungrammatical → Type 0
+found s at high o o' (Ok x) = NumberFound s at (Some x.value) x.next × (o' ≡ keep_first o (ranged (number at x.value) 1 high))
+found s at high o o' (Err e) = NumberFound s at None e.place
 
 -- ---- items that are neither groups nor literals
 
@@ -68,13 +68,13 @@ abbrev pub Stuck : List ℕ → ℕ → Mode → ℕ → Type 0
 Stuck s a m p = (l : ℕ) (xs : Items) (q : Open) → read_at s a (State.within m l xs q) ≡ Reading.wrong p
 
 -- an item, or none
-abbrev pub item_read : List ℕ → ℕ → Mode → List Ranged → ℕ → Option ℕ → Result Single Ungrammatical → Type 0
-item_read s a m ns least o (Ok x) = ItemRead s a m ns least o x.word x.repeat x.next x.outside
-item_read s a m ns least o (Err e) = Stuck s a m e.place
+abbrev pub item_read : List ℕ → ℕ → Mode → List Ranged → ℕ → Option ℕ → Option ℕ → Result Single Ungrammatical → Type 0
+item_read s a m ns least o o' (Ok x) = ItemRead s a m ns least o x.word x.repeat x.next o'
+item_read s a m ns least o o' (Err e) = Stuck s a m e.place
 
 -- an item that begins before `at` and ends with what a letter, whose use is u, asks for
-abbrev pub ended : List ℕ → ℕ → Use → Repeat → Option ℕ → Result Single Ungrammatical → Type 0
-ended s at u k o x = item_read s at (Mode.digits u at 0) (repeat_numbers k) at o x
+abbrev pub ended : List ℕ → ℕ → Use → Repeat → Option ℕ → Option ℕ → Result Single Ungrammatical → Type 0
+ended s at u k o o' x = item_read s at (Mode.digits u at 0) (repeat_numbers k) at o o' x
 
 -- a byte that begins neither a group nor a literal
 pub record NoBracketOrMark (b : ℕ) : Type 0 where
@@ -101,30 +101,21 @@ literal_found s at m t c u (Err e) = Stuck s at (Mode.inside m []) e.place
 
 -- ---- items with their entries
 
--- room for the entries of what can be read from a position on
-pub record Room (s : List ℕ) (p : Position) (a : List Entry) : Type 0 where
-  pub within : p.at ≤ length s
-  pub short : length s ≤ 1024
-  pub few_entries : p.entries ≤ p.at
-  pub few_chars : p.chars ≤ p.at
-  pub entries_fit : length s ≤ length a
-
 -- the entries from n up to m
 abbrev pub between : ℕ → ℕ → List Entry → List Entry
 between n m es = take (m - n) (drop n es)
 
--- from the mode m at p, items were read up to the state `to` at p'; their entries and characters were added to a and t
-pub record Took (s : List ℕ) (l : ℕ) (m : Mode) (to : ℕ → Items → Open → State) (p : Position) (a : List Entry) (t : List ℕ) (p' : Position) (b : List Entry) (u : List ℕ) : Type 0 where
+-- from the mode m at p, items were read up to the state `to` at p', in the same text; their entries and characters were added
+-- to a and t
+pub record Took (l : ℕ) (m : Mode) (to : ℕ → Items → Open → State) (p : Position) (a : List Entry) (t : List ℕ) (p' : Position) (b : List Entry) (u : List ℕ) : Type 0 where
   pub items : Items
-  pub runs : (xs : Items) (q : Open) → read_at s p.at (State.within m l xs q) ≡ read_at s p'.at (to l (join xs items) q)
+  pub runs : (xs : Items) (q : Open) → read_at p.text.now p.at (State.within m l xs q) ≡ read_at p.text.now p'.at (to l (join xs items) q)
   pub holds : Holds u p'.chars l (between p.entries p'.entries b) items
   pub entries_kept : take p.entries b ≡ take p.entries a
   pub chars_kept : take p.chars u ≡ take p.chars t
   pub outside_is : p'.outside ≡ outside_after p.outside (numbers items)
+  pub same_text : p'.text ≡ p.text
   pub more : p.at < p'.at
-  pub high : p'.at ≤ length s
-  pub few_entries : p'.entries ≤ p'.at
-  pub few_chars : p'.chars ≤ p'.at
   pub more_entries : p.entries ≤ p'.entries
   pub more_chars : p.chars ≤ p'.chars
 
@@ -133,26 +124,26 @@ abbrev pub NoItem : List ℕ → ℕ → ℕ → ℕ → Type 0
 NoItem s l at x = (xs : Items) (q : Open) → read_at s at (State.within (wanted at) l xs q) ≡ Reading.wrong x
 
 -- items, or none
-abbrev pub took : List ℕ → ℕ → (ℕ → Items → Open → State) → Position → List Entry → List ℕ → List Entry → List ℕ → Result Position Ungrammatical → Type 0
-took s l to p a t b u (Ok p') = Took s l (wanted p.at) to p a t p' b u
-took s l to p a t b u (Err e) = NoItem s l p.at e.place
+abbrev pub took : ℕ → (ℕ → Items → Open → State) → Position → List Entry → List ℕ → Position → List Entry → List ℕ → Result Unit Ungrammatical → Type 0
+took l to p a t p' b u (Ok _) = Took l (wanted p.at) to p a t p' b u
+took l to p a t p' b u (Err e) = NoItem p.text.now l p.at e.place
 
 -- a group opens, with the repeat k of r
-pub record Opened (s : List ℕ) (l : ℕ) (p inside : Position) (r : ℕ) (a : List Entry) (t : List ℕ) (b : List Entry) (u : List ℕ) : Type 0 where
+pub record Opened (l : ℕ) (p inside : Position) (r : ℕ) (a : List Entry) (t : List ℕ) (b : List Entry) (u : List ℕ) : Type 0 where
   pub k : Repeat
   pub repeats : times k ≡ r
-  pub runs : (xs : Items) (q : Open) → read_at s p.at (State.within (wanted p.at) l xs q) ≡ read_at s inside.at (State.within (wanted inside.at) (l - 1) Items.none (Open.group xs k q))
+  pub runs : (xs : Items) (q : Open) → read_at p.text.now p.at (State.within (wanted p.at) l xs q) ≡ read_at p.text.now inside.at (State.within (wanted inside.at) (l - 1) Items.none (Open.group xs k q))
   pub outside_is : inside.outside ≡ outside_after p.outside (repeat_numbers k)
   pub same_entries : b ≡ a
   pub same_chars : u ≡ t
+  pub same_text : inside.text ≡ p.text
   pub entries_are : inside.entries ≡ p.entries + 1
   pub chars_are : inside.chars ≡ p.chars
   pub deep : 0 < l
   pub more : p.at < inside.at
-  pub high : inside.at ≤ length s
 
 -- an item, the opening of a group, or neither
-abbrev pub headed : List ℕ → ℕ → Position → List Entry → List ℕ → List Entry → List ℕ → Result Head Ungrammatical → Type 0
-headed s l p a t b u (Ok (head.Whole p')) = Took s l (wanted p.at) (State.within Mode.after) p a t p' b u
-headed s l p a t b u (Ok (head.Group inside r)) = Opened s l p inside r a t b u
-headed s l p a t b u (Err e) = NoItem s l p.at e.place
+abbrev pub headed : ℕ → Position → List Entry → List ℕ → Position → List Entry → List ℕ → Result Head Ungrammatical → Type 0
+headed l p a t p' b u (Ok head.Whole) = Took l (wanted p.at) (State.within Mode.after) p a t p' b u
+headed l p a t p' b u (Ok (head.Group r)) = Opened l p p' r a t b u
+headed l p a t p' b u (Err e) = NoItem p.text.now l p.at e.place

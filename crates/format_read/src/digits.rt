@@ -4,7 +4,7 @@ ghost use Rattle.format_read.specs.Steps.{NumberFound};
 
 use crate::Number;
 
-// The digits from `at` on, three at most.
+// The digits from `at` on, three at most; their value and their end come of one pass. (The offset is a plain number: see singles.)
 pub fn read_number(text: &[u8], at: usize) -> Number
     requires { at ≤ length text.now }
     ensures { NumberFound text.now at result.value result.next }

@@ -1,7 +1,7 @@
 // A format's text read into entries and the characters of its literals.
 #![tactic(auto)]
 
-ghost use Rattle.std.specs.Prelude.{◌≡◌, ◌+◌, ◌<◌};
+ghost use Rattle.std.specs.Prelude.{◌≡◌, ◌≤◌, length};
 ghost use Rattle.format_items.specs.declared.FormatRefusal.TheVariants.{Grammar};
 
 mod digits;
@@ -15,40 +15,20 @@ mod singles;
 use format_items::FormatRefusal;
 use format_words::Word;
 
-// Where a reader stands: the offset of the next byte, how many entries and characters there are, and the offset of the first
-// number out of range so far.
+// Where a reader stands in a format's text: the offset of the next byte, how many entries and characters there are, and the
+// offset of the first number out of range so far. An entry and a character each stand for a byte that was read. (Counts, and no
+// `Vec`: fixed memory, a rule of the project, so entries and characters go into lent arrays.)
 #[derive(Clone, Copy, PartialEq, Eq, Debug)]
-pub struct Position {
+pub struct Position<'a> {
+    pub text: &'a [u8],
     pub at: usize,
     pub entries: usize,
     pub chars: usize,
     pub outside: Option<usize>,
-}
-
-impl Position {
-    // One byte on.
-    fn past(self) -> Position
-        requires { self.at < 1024 }
-        ensures { result ≡ record self { at = self.at + 1 } }
-    {
-        Position {
-            at: self.at + 1,
-            ..self
-        }
-    }
-
-    // At another offset, with one entry more.
-    fn with_entry(self, at: usize, outside: Option<usize>) -> Position
-        requires { self.entries < 1024 }
-        ensures { result ≡ record self { at = at; entries = self.entries + 1; outside = outside } }
-    {
-        Position {
-            at,
-            entries: self.entries + 1,
-            outside,
-            ..self
-        }
-    }
+    ghost short: { length text.now ≤ 1024 },
+    ghost within: { at ≤ length text.now },
+    ghost few_entries: { entries ≤ at },
+    ghost few_chars: { chars ≤ at },
 }
 
 // A text that is not of the grammar: the offset of the byte that cannot go on.
@@ -72,22 +52,19 @@ struct Number {
     next: usize,
 }
 
-// A number that is there: its value, the offset after it, and that of the first number out of range.
+// A number that is there: its value, and the offset after it.
 #[derive(Clone, Copy, PartialEq, Eq, Debug)]
 struct Found {
     value: u16,
     next: usize,
-    outside: Option<usize>,
 }
 
-// An item that is neither a group nor a literal: its word and repeat, the offset after it, and that of the first number out
-// of range.
-#[derive(Clone, Copy)]
+// An item that is neither a group nor a literal: its word and repeat, and the offset after it.
+#[derive(Clone, Copy, PartialEq, Eq, Debug)]
 struct Single {
     word: Word,
     repeat: u16,
     next: usize,
-    outside: Option<usize>,
 }
 
 // A literal: the offset after it, and how many characters there are then.
@@ -100,6 +77,6 @@ struct Literal {
 // What an item begins with: all of it, or the opening of a group.
 #[derive(Clone, Copy, PartialEq, Eq, Debug)]
 enum Head {
-    Whole(Position),
-    Group { inside: Position, repeat: u16 },
+    Whole,
+    Group { repeat: u16 },
 }

@@ -5,7 +5,8 @@ ghost use Rattle.format_read.specs.Steps.{literal_found};
 use crate::{Literal, Ungrammatical};
 use buffer::characters::is_printable;
 
-// The literal whose opening mark m stands before `at`; its characters, marks undoubled, go to `chars` from c on.
+// The literal whose opening mark m stands before `at`; its characters, marks undoubled, go to `chars` from c on. (The offset is a
+// plain number: see singles.)
 pub fn read_literal(
     text: &[u8],
     at: usize,

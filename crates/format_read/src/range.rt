@@ -6,29 +6,20 @@ ghost use Rattle.format_read.specs.Steps.{number_at, keep_first, outside_after};
 
 use format_items::LARGEST_COUNT;
 
-// The first number out of range, after the number at `at` too.
-pub fn first_outside(
-    outside: Option<usize>,
-    at: usize,
-    value: u16,
-    low: u16,
-    high: u16,
-) -> Option<usize>
-    ensures { result ≡ keep_first outside (ranged (number at value) low high) }
+// The number at `at` is looked at: where it is out of range and none was before, it is the first one.
+pub fn look_at(outside: &mut Option<usize>, at: usize, value: u16, low: u16, high: u16)
+    ensures { outside.new ≡ keep_first outside.old (ranged (number at value) low high) }
 {
-    if outside.is_none() && !(low..=high).contains(&value) {
-        Some(at)
-    } else {
-        outside
+    if !(low..=high).contains(&value) && outside.is_none() {
+        *outside = Some(at);
     }
 }
 
-// The first number out of range, after the repeat or count at `at` too, if there is one.
-pub fn outside_of(outside: Option<usize>, at: usize, value: Option<u16>) -> Option<usize>
-    ensures { result ≡ outside_after outside (repeat_numbers (number_at at value)) }
+// The repeat or count at `at` is looked at, if there is one.
+pub fn look_at_repeat(outside: &mut Option<usize>, at: usize, value: Option<u16>)
+    ensures { outside.new ≡ outside_after outside.old (repeat_numbers (number_at at value)) }
 {
-    match value {
-        None => outside,
-        Some(value) => first_outside(outside, at, value, 1, LARGEST_COUNT),
+    if let Some(value) = value {
+        look_at(outside, at, value, 1, LARGEST_COUNT);
     }
 }

@@ -1,25 +1,25 @@
-// Items that are neither groups nor literals.
+// Items that are neither groups nor literals. (An offset after the position is a plain number, which has to lie in the text: a
+// struct of both would be made and taken apart at each call.)
 ghost use Rattle.std.specs.Prelude.{◌≡◌, [], ◌+◌, ◌<◌, ◌≤◌, length, get_or};
 ghost use Rattle.format_items.specs.Items.{Repeat, times};
 ghost use Rattle.format_grammar.specs.Reading.{Use, wanted};
 ghost use Rattle.format_read.specs.Steps.{NumberFound, found, ended, item_read, NoBracketOrMark};
 
 use crate::digits::read_number;
-use crate::range::{first_outside, outside_of};
-use crate::{Found, Number, Position, Single, Ungrammatical};
+use crate::range::{look_at, look_at_repeat};
+use crate::{Found, Number, Single, Ungrammatical};
 use format_items::{LARGEST_COUNT, LARGEST_PLACES, LARGEST_WIDTH};
 use format_words::Word;
 
 impl Found {
     // The item whose only number it is.
     fn single(self, word: Word, repeat: u16) -> Single
-        ensures { result ≡ record { word = word; repeat = repeat; next = self.next; outside = self.outside } }
+        ensures { result ≡ record { word = word; repeat = repeat; next = self.next } }
     {
         Single {
             word,
             repeat,
             next: self.next,
-            outside: self.outside,
         }
     }
 }
@@ -29,24 +29,24 @@ fn read_one(
     text: &[u8],
     at: usize,
     high: u16,
-    outside: Option<usize>,
+    outside: &mut Option<usize>,
 ) -> Result<Found, Ungrammatical>
     requires { at ≤ length text.now }
-    ensures { found text.now at high outside result }
+    ensures { found text.now at high outside.old outside.new result }
 {
     let m = read_number(text, at);
     let value = m.value.ok_or(Ungrammatical { place: m.next })?;
+    look_at(outside, at, value, 1, high);
     Ok(Found {
         value,
         next: m.next,
-        outside: first_outside(outside, at, value, 1, high),
     })
 }
 
 // What A goes on with: a width, or nothing.
-fn read_a(text: &[u8], at: usize, repeat: u16, outside: Option<usize>) -> Single
+fn read_a(text: &[u8], at: usize, repeat: u16, outside: &mut Option<usize>) -> Single
     requires { at ≤ length text.now }
-    ensures { (k : Repeat) → times k ≡ repeat → ended text.now at (Use.width_a k) k outside (Ok result) }
+    ensures { (k : Repeat) → times k ≡ repeat → ended text.now at (Use.width_a k) k outside.old outside.new (Ok result) }
 {
     let m = read_number(text, at);
     match m.value {
@@ -54,14 +54,15 @@ fn read_a(text: &[u8], at: usize, repeat: u16, outside: Option<usize>) -> Single
             word: Word::A,
             repeat,
             next: m.next,
-            outside,
         },
-        Some(width) => Single {
-            word: Word::Aw { width },
-            repeat,
-            next: m.next,
-            outside: first_outside(outside, at, width, 1, LARGEST_WIDTH),
-        },
+        Some(width) => {
+            look_at(outside, at, width, 1, LARGEST_WIDTH);
+            Single {
+                word: Word::Aw { width },
+                repeat,
+                next: m.next,
+            }
+        }
     }
 }
 
@@ -70,10 +71,10 @@ fn read_f(
     text: &[u8],
     at: usize,
     repeat: u16,
-    outside: Option<usize>,
+    outside: &mut Option<usize>,
 ) -> Result<Single, Ungrammatical>
     requires { at ≤ length text.now }
-    ensures { (k : Repeat) → times k ≡ repeat → ended text.now at (Use.width_f k) k outside result }
+    ensures { (k : Repeat) → times k ≡ repeat → ended text.now at (Use.width_f k) k outside.old outside.new result }
 {
     let m = read_number(text, at);
     let point = m.next;
@@ -84,24 +85,29 @@ fn read_f(
     let start = point + 1;
     let n = read_number(text, start);
     let places = n.value.ok_or(Ungrammatical { place: n.next })?;
-    let o = first_outside(outside, at, width, 1, LARGEST_WIDTH);
+    look_at(outside, at, width, 1, LARGEST_WIDTH);
+    look_at(outside, start, places, 0, LARGEST_PLACES);
     Ok(Single {
         word: Word::F { width, places },
         repeat,
         next: n.next,
-        outside: first_outside(o, start, places, 0, LARGEST_PLACES),
     })
 }
 
-// The item, neither a group nor a literal, that begins at p with the digits m.
-pub fn read_single(text: &[u8], p: Position, m: Number) -> Result<Single, Ungrammatical>
-    requires number_found { NumberFound text.now p.at m.value m.next }
+// The item, neither a group nor a literal, that begins at `from` with the digits m.
+pub fn read_single(
+    text: &[u8],
+    from: usize,
+    m: Number,
+    outside: &mut Option<usize>,
+) -> Result<Single, Ungrammatical>
+    requires number_found { NumberFound text.now from m.value m.next }
     requires at_in_bounds { (m.next < length text.now) × NoBracketOrMark (get_or text.now m.next 0) }
-    ensures { item_read text.now p.at (wanted p.at) [] (p.at + 1) p.outside result }
+    ensures { item_read text.now from (wanted from) [] (from + 1) outside.old outside.new result }
 {
     let at = m.next;
     let repeat = m.value.unwrap_or(1);
-    let outside = outside_of(p.outside, p.at, m.value);
+    look_at_repeat(outside, from, m.value);
     match text[at] {
         b'I' => {
             let width = read_one(text, at + 1, LARGEST_WIDTH, outside)?;
@@ -131,14 +137,12 @@ pub fn read_single(text: &[u8], p: Position, m: Number) -> Result<Single, Ungram
                 word: Word::X { count },
                 repeat: 1,
                 next: at + 1,
-                outside,
             })
         }
         b'/' => Ok(Single {
             word: Word::Slash,
             repeat,
             next: at + 1,
-            outside,
         }),
         _ => Err(Ungrammatical { place: at }),
     }

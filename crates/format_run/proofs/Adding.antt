@@ -37,9 +37,6 @@ pub record Added (es : List Entry) (l total : ℕ) (rest : List Entry) : Type 0 
   pub low : total ≤ 4097
   pub all : (t : List ℕ) (c : ℕ) (xs : Items) → Holds t c l es xs → Left t c l total rest xs
 
-pub added_none : {es : List Entry} {l : ℕ} → Added es l 0 es
-added_none = record { low = omega arith; all = λ t c xs h. record { zs = xs; holds = h; sum = omega arith } }
-
 module _ {es : List Entry} {l total : ℕ} {rest : List Entry} (w : Added es l total rest) where
   pub held_left : SomeItems es l → SomeItems rest l
   held_left h =

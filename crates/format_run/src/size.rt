@@ -7,7 +7,7 @@ ghost use Rattle.format_run.specs.Sizes.{capped};
 
 use format_words::Entry;
 
-// What any size over the largest counts as.
+// What any size over the largest counts as. (A cap and no `Option`: the sums go on with it, without a case for `None` in each.)
 const TOO_LARGE: usize = 4097;
 
 // The size of the items that the entries hold, as far as it matters, by recursion over nested groups.

@@ -7,7 +7,8 @@ ghost use Rattle.format_run.specs.Runs.{SomeItemsFit, AreMet};
 
 use format_words::{Entry, Word};
 
-// The first n words, r times instead of once; answers how many they then are.
+// The first n words, r times instead of once; answers how many they then are. (By index: a word is copied from the one n before
+// it, which may be a copy itself.)
 fn repeat_words(run: &mut [Word], n: usize, r: u16) -> usize
     requires some { 1 ≤ r }
     requires room { r * n ≤ length run.old }
@@ -22,7 +23,7 @@ fn repeat_words(run: &mut [Word], n: usize, r: u16) -> usize
 }
 
 // What unrolling answers: how many words the items met are, and where the part to return to begins among them.
-#[derive(Clone, Copy)]
+#[derive(Clone, Copy, PartialEq, Eq, Debug)]
 pub struct Unrolled {
     pub end: usize,
     pub back: usize,

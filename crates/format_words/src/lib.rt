@@ -4,7 +4,7 @@
 pub mod run;
 
 // An item met. The numbers of a literal are the offset and the count of its characters, which are kept beside the words.
-#[derive(Clone, Copy)]
+#[derive(Clone, Copy, PartialEq, Eq, Debug)]
 pub enum Word {
     I { width: u16 },
     F { width: u16, places: u16 },
@@ -17,9 +17,23 @@ pub enum Word {
     Literal { start: u16, len: u16 },
 }
 
-// An item with its repeat; or a group with its repeat, whose items are held by so many of the entries after it.
-#[derive(Clone, Copy)]
+impl Word {
+    // What an array of words holds before it is filled.
+    pub const ZERO: Word = Word::I { width: 0 };
+}
+
+// An item with its repeat; or a group with its repeat, whose items are held by so many of the entries after it. (Fixed memory, a
+// rule of the project, so a count of entries and no `Box` or `Vec`.)
+#[derive(Clone, Copy, PartialEq, Eq, Debug)]
 pub enum Entry {
     Item { word: Word, repeat: u16 },
     Group { entries: u16, repeat: u16 },
+}
+
+impl Entry {
+    // What an array of entries holds before it is filled.
+    pub const ZERO: Entry = Entry::Item {
+        word: Word::ZERO,
+        repeat: 0,
+    };
 }

@@ -13,5 +13,4 @@ pub struct Run<'a> {
     pub chars: &'a [u8],
     ghost sound: { RunWords (length chars.now) words.now },
     ghost within: { AllMetWithin (map (met_of chars.now) words.now) } by { AllMetWithin-prop (map (met_of chars.now) words.now) },
-    ghost return_to: { back ≤ length words.now },
 }

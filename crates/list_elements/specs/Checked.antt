@@ -1,7 +1,8 @@
--- Row 6 as the code answers it: the elements of a good list, or the bad element.
+-- Row 6 as the code answers it: the elements of a good list, or the bad element. (Nothing here need be believed: no public call's
+-- contract speaks of it.)
 -- Assumes nothing.
 use Rattle.std.specs.Prelude.{◌≡◌, Bool, List, ℕ, Result, Ok, Err, take}
-use Rattle.std.proofs.Common.{Bor}
+use Rattle.std.specs.Borrow.{Bor}
 use Rattle.list_elements.specs.Limits.{good, check_list, list_check}
 use Rattle.list_elements.specs.declared.Value.{Value}
 use Rattle.list_elements.specs.declared.Element.{Element}

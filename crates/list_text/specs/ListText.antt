@@ -1,6 +1,7 @@
 -- Document 01, the list text as a list, and row 6 of it.
 -- Assumes nothing.
 use Rattle.std.specs.Prelude.{List, [], ◌∷◌, ℕ, ◌+◌, length, Result, Ok, Err}
+use Rattle.std.specs.Result.{result_unwrap_or}
 use Rattle.list_elements.specs.Elements.{empty_list}
 use Rattle.list_elements.specs.Contents.{list_of}
 use Rattle.list_elements.specs.Limits.{most_elements, within_limits, ListCheck, check_values}
@@ -32,9 +33,5 @@ abbrev pub line_read : List ℕ → Result carried.List BadElement
 line_read s = list_read (line_check s) (line_values s)
 
 -- the list; empty where row 6 refuses: 'no values'
-abbrev pub list_given : ListCheck → List Value → carried.List
-list_given (Ok u) vs = list_of vs
-list_given (Err e) vs = empty_list
-
 abbrev pub line_list : List ℕ → carried.List
-line_list s = list_given (line_check s) (line_values s)
+line_list s = result_unwrap_or (line_read s) empty_list

@@ -3,10 +3,8 @@ ghost use Rattle.std.specs.Prelude.{◌≡◌};
 ghost use Rattle.list_text.specs.Steps.{signed_read, number_read};
 
 use crate::digits::read_digits;
+use number::MOST_DIGITS;
 use number::sign::with_sign;
-
-// The most digits of a number.
-const MOST_DIGITS: usize = 18;
 
 // The number of these digits, negated or not.
 fn read_signed(negated: bool, digits: &[u8]) -> Option<i64>

@@ -16,7 +16,7 @@ use list_elements::{BadElement, Element, List};
 const LONGEST_LINE: usize = 2 + LONGEST;
 
 // The line from this offset on, of which at most LONGEST_LINE + 1 bytes are looked at: one longer than LONGEST_LINE is outside
-// the limits, whatever it holds.
+// the limits, whatever it holds. (A plain offset, as the place of a text is counted from the start.)
 fn line_from(text: &[u8], at: usize) -> &[u8]
     requires { at ≤ length text.now }
     ensures { result.now ≡ first_line (take (longest_line + 1) (drop at text.now)) }
@@ -25,7 +25,8 @@ fn line_from(text: &[u8], at: usize) -> &[u8]
     first_line(&rest[..rest.len().min(LONGEST_LINE + 1)])
 }
 
-// The list of a list text, its texts as places in the text itself; or refusal 6. Any bytes.
+// The list of a list text, its texts as places in the text itself; or refusal 6. Any bytes. (A `while` and no `split`, which
+// would look through the whole of a line that is too long.)
 pub fn read_list(text: &[u8]) -> Result<List, BadElement>
     ensures read { result ≡ line_read text.now }
     ensures list { result_unwrap_or result empty_list ≡ line_list text.now }

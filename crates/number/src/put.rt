@@ -12,6 +12,8 @@ trait Tens: Copy {
         ensures last { result.1 ≡ value self % 10 };
 }
 
+// (Alike for both types, since an impl may not be written by a macro of this repository. The digit is cast, which the proof
+// covers: `try_from` would answer a `Result` whose error never comes.)
 impl Tens for u32 {
     ghost value = { λ n. n };
 

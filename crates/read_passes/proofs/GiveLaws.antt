@@ -6,13 +6,12 @@ use Prim.Native.Nat.{ℕ, ◌+◌, ◌<◌, ◌≤◌}
 use native.Mathlib.Nat.{zero-add}
 use native.Mathlib.Numerals.{add-one}
 use native.Mathlib.Omega.{arith}
-use lib.IntN.{ℤ, pos}
+use lib.IntN.{pos}
 use lib.ListN.{length, get_or, set, take, drop, length-append, length-map, take-append-drop, get_or-map}
 use lib.Seq.{take_all, take-suc, ext_get_or}
 use Rattle.buffer.specs.Splice.{splice}
 use Rattle.buffer.proofs.Splicing.{splice_then, splice_nothing}
-use Rattle.list_elements.specs.Elements.{Kind, integer, text_length, kind_of, value_of, zero_value, empty_list}
-use Rattle.sheet_walk.specs.Given.{kinds_of}
+use Rattle.list_elements.specs.Elements.{Kind, integer, text_length, kind_of, value_of, zero_value, empty_list, kinds_of}
 use Rattle.list_elements.specs.Contents as content
 use Rattle.list_elements.specs.Contents.{Content, content_kind, bytes_of, texts_of, laid_texts, value_from, values_from, element_of, list_of}
 use Rattle.list_elements.specs.declared.Text.{Text}

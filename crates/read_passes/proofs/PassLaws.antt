@@ -1,7 +1,7 @@
 -- The pass of reading: what holds at each turn.
 -- Assumes nothing.
 use Rattle.std.proofs.Common.{◌≡◌, refl, sym, ap, subst, ◌∙◌, List, [], ◌∷◌, ◌++◌, ℕ, ◌+◌, ◌*◌, ◌<◌, ◌≤◌, arith, length, take, drop, get_or, pos}
-use Rattle.std.specs.Prelude.{Option, Some, None, Result, Ok, Err}
+use Rattle.std.specs.Prelude.{Some, None}
 use Rattle.std.proofs.lemmas.List.{length-map}
 use mathlib.Core.List.{append_assoc, append-nil}
 use native.Mathlib.Decide.{dec_lt}
@@ -10,28 +10,26 @@ use lib.Seq.{get_or_at, get_or-set_same, get_or-set_other}
 use Rattle.format_items.specs.Items.{Field}
 use Rattle.format_items.specs.Met.{Met}
 use Rattle.format_words.specs.Words.{met_of}
-use Rattle.format_words.specs.declared.Word.{Word}
 use Rattle.format_words.specs.declared.Word.TheVariants as word
 use Rattle.format_words.specs.declared.run.Run.{Run}
-use Rattle.list_elements.specs.Elements.{Kind, zero_value, value_of}
+use Rattle.list_elements.specs.Elements.{Kind, zero_value, value_of, kinds_of}
 use Rattle.list_elements.specs.Contents as content
 use Rattle.list_elements.specs.Contents.{Content, element_of}
 use Rattle.list_elements.specs.declared.Value.{Value}
 use Rattle.list_elements.specs.declared.Element.{Element}
-use Rattle.sheet_walk.specs.Steps.{What, Placement}
-use Rattle.sheet_walk.specs.Walk.{Trace, put, done, stopped}
+use Rattle.sheet_walk.specs.Walk.{Trace, done, stopped}
 use Rattle.sheet_walk.specs.Laid.{columns}
-use Rattle.sheet_walk.specs.Given.{kinds_of, what_of, given_sheet, fields_of, Covering}
-use Rattle.sheet_walk.specs.Followed.{GoesBy, left_of, CoverIs, Covers}
+use Rattle.sheet_walk.specs.Given.{what_of, given_sheet, fields_of, Covering}
+use Rattle.sheet_walk.specs.Followed.{GoesBy, left_of, CoverIs, CoversNext}
 use Rattle.sheet_walk.specs.declared.Refusal.{Refusal}
 use Rattle.sheet_walk.specs.declared.Refusal.TheVariants.{FieldText}
-use Rattle.sheet_walk.specs.declared.Records.{Records}
+use Rattle.sheet_walk.specs.declared.records.Records.{Records}
 use Rattle.sheet_walk.specs.declared.Cover.{Cover}
 use Rattle.sheet_walk.specs.declared.walk.Walk.{Walk}
 use Rattle.sheet_walk.proofs.Puts.{cover_in}
 use Rattle.read_passes.specs.Given.{Given, gives, nothing, field_gives, Gathered, accepted, refused, in_front, element_gathered, kind_at, what_gathered, gathered}
-use Rattle.read_passes.specs.Passes.{found_in, FoundAs, GivenAs, FoundSoFar}
-use Rattle.read_passes.proofs.FindLaws.{found_as}
+use Rattle.read_passes.specs.Passes.{found_in, FoundAs, FoundSoFar}
+use Rattle.read_passes.proofs.FindLaws.{GivenAs, found_as}
 
 -- ---- what was gathered before the rest
 
@@ -94,7 +92,7 @@ module _ {wanted : List Element} {rs : Records} {records : List ℕ} {whole : Tr
 
   -- ---- at what covers columns
 
-  module _ {r : Run} (g : GoesBy w r wanted rs) {v : Walk} {c : Cover} (m : Covers w v c) (room : rs.count * rs.width ≤ length records) where
+  module _ {r : Run} (g : GoesBy w r wanted rs) {v : Walk} {c : Cover} (m : CoversNext w v c) (room : rs.count * rs.width ≤ length records) where
     is : CoverIs (given_sheet r wanted rs) r.chars.now c m.placement
     is = cover_in g m
 
@@ -128,7 +126,7 @@ module _ {wanted : List Element} {rs : Records} {records : List ℕ} {whole : Tr
     -- a field
     module _ (u : (a n : ℕ) → c.word ≡ word.Literal a n → ⊥) where
       f : (f : Field ℕ) × (x ≡ Met.field f) × GivenAs records (kind_at (kinds_of wanted) c.place) (field_gives f (kind_at (kinds_of wanted) c.place) (take c.width (drop c.at records))) (found_in c.word (take c.width (drop c.at records)) c.at)
-      f = found_as records c.at within c.word is.word u
+      f = found_as records c.at within is.few c.word is.word u
 
       one : fields_of x ≡ 1
       one = rw f.1 refl

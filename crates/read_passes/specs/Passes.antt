@@ -2,24 +2,22 @@
 -- speak of it.)
 -- Assumes nothing.
 use Rattle.std.specs.Prelude.{◌≡◌, Bool, cond, List, ℕ, ◌+◌, ◌<◌, ◌≤◌, pos, length, get_or, Option, Some, None, Result, Ok, Err}
-use Rattle.buffer.specs.Characters.{all_printable}
 use Rattle.field_written.specs.Numeral.{Numeric}
 use Rattle.field_read.specs.Read.{read_field}
 use Rattle.field_read.specs.LogicalRead.{logical_read}
-use Rattle.field_read.specs.TextRead.{text_read}
+use Rattle.field_read.specs.TextRead.{text_readable, text_read}
 use Rattle.field_read.specs.declared.Number.{Number}
 use Rattle.format_words.specs.declared.Word.{Word}
 use Rattle.format_words.specs.declared.Word.TheVariants as word
-use Rattle.list_elements.specs.Elements.{Kind, text_length, zero_value, value_of, text_bytes}
+use Rattle.list_elements.specs.Elements.{Kind, text_length, zero_value, value_of, text_bytes, kinds_of}
 use Rattle.list_elements.specs.Limits.{most_elements, texts_length}
 use Rattle.list_elements.specs.Contents as content
 use Rattle.list_elements.specs.Contents.{Content, content_kind}
 use Rattle.list_elements.specs.declared.Value.{Value}
 use Rattle.list_elements.specs.declared.Value.TheVariants as value
 use Rattle.list_elements.specs.declared.Element.{Element}
-use Rattle.sheet_walk.specs.Given.{kinds_of}
 use Rattle.sheet_walk.specs.declared.Refusal.{Refusal}
-use Rattle.read_passes.specs.Given.{Given, gives, nothing, Gathered, accepted, refused, kind_at}
+use Rattle.read_passes.specs.Given.{Gathered, accepted, refused, kind_at}
 
 -- ---- one field
 
@@ -37,7 +35,7 @@ logical_found None = None
 
 -- of a text, where its field stands in the records
 abbrev pub text_found : List ℕ → ℕ → Option Value
-text_found t at = cond (all_printable t) (Some (value.Text (record { start = at; len = length t }))) None
+text_found t at = cond (text_readable t) (Some (value.Text (record { start = at; len = length t }))) None
 
 -- under the word of a field; of an item that is none, as under A
 abbrev pub found_in : Word → List ℕ → ℕ → Option Value
@@ -67,16 +65,19 @@ field_inside records (value.Decimal d) = Unit
 field_inside records (value.Logical b) = Unit
 field_inside records (value.Text t) = t.start + t.len ≤ length records
 
+-- and is less than 256 columns wide
+abbrev pub field_narrow : Value → Type 0
+field_narrow (value.Integer n) = Unit
+field_narrow (value.Decimal d) = Unit
+field_narrow (value.Logical b) = Unit
+field_narrow (value.Text t) = t.len < 256
+
 -- the content c was found, an element of the kind k being wanted
 pub record FoundAs (records : List ℕ) (k : Kind) (v : Value) (c : Content) : Type 0 where
   pub is : content_found records (text_length k) v ≡ c
   pub of_kind : content_kind c ≡ k
   pub inside : field_inside records v
-
--- what a field gives, as the code answers it
-abbrev pub GivenAs : List ℕ → Kind → Given → Option Value → Type 0
-GivenAs records k (gives c) r = (v : Value) × (r ≡ Some v) × FoundAs records k v c
-GivenAs records k nothing r = r ≡ None
+  pub narrow : field_narrow v
 
 -- ---- the whole walk
 

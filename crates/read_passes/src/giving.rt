@@ -22,7 +22,8 @@ fn give_value(value: Value, len: usize, records: &[u8], area: &mut [u8], at: usi
     Value::Text(Text { start: at, len })
 }
 
-// The list, its texts laid in the area from the first byte on.
+// The list, its texts laid in the area from the first byte on. (By index: of the elements behind `iter_mut` a proof would know
+// nothing afterwards. What was found stands beside what was wanted: fixed memory, and the wanted list is lent.)
 pub fn give(wanted: &[Element], found: &[Element], records: &[u8], area: &mut [u8]) -> List
     requires { SomeFound records.now wanted.now found.now (length area.old) }
     ensures list { (cs : Contents) → Found records.now wanted.now found.now (length area.old) cs → result ≡ list_of (values_from 0 cs) }

@@ -2,7 +2,8 @@
 ghost use Rattle.std.specs.Prelude.{◌≡◌, List, ℕ, ◌*◌, ◌≤◌, length};
 ghost use Rattle.list_elements.specs.Contents.{Content};
 ghost use Rattle.sheet_walk.specs.Walk.{walk};
-ghost use Rattle.sheet_walk.specs.Given.{kinds_of, given_sheet, Roomy};
+ghost use Rattle.list_elements.specs.Elements.{kinds_of};
+ghost use Rattle.sheet_walk.specs.Given.{given_sheet};
 ghost use Rattle.read_passes.specs.Given.{accepted, gathered};
 ghost use Rattle.read_passes.specs.Passes.{ending_of, FoundSoFar};
 
@@ -10,10 +11,12 @@ use crate::fields::find;
 use format_words::Word;
 use format_words::run::Run;
 use list_elements::Element;
+use sheet_walk::Refusal;
+use sheet_walk::records::Records;
 use sheet_walk::walk::Walk;
-use sheet_walk::{Records, Refusal};
 
-// The records reached, or the first refusal on the walk; what the fields hold is put in order.
+// The records reached, or the first refusal on the walk; what the fields hold is put in order. (That the records lie in the bytes
+// is asked here alone in reading, so no struct has it.)
 pub fn read_pass(
     run: Run<'_>,
     wanted: &[Element],
@@ -21,7 +24,6 @@ pub fn read_pass(
     bytes: &[u8],
     found: &mut [Element],
 ) -> Result<usize, Refusal>
-    requires roomy { Roomy records }
     requires room { records.count * records.width ≤ length bytes.now }
     requires long { length wanted.now ≤ length found.old }
     ensures ends { result ≡ ending_of (gathered records.width (kinds_of wanted.now) bytes.now (walk (given_sheet run.entry wanted.now records))) }

@@ -1,18 +1,15 @@
 // The answers of reading.
 use crate::values::{show_values, zeros_follow};
-use case_lines::marks::is_marked;
-use case_lines::shown::{Counts, Refused, show_bytes};
+use case_lines::shown::{Accepted, show_bytes, show_refusal};
 use sheet_read::SheetRead;
-use sheet_walk::Refusal;
+use sheet_walk::{Counts, Refusal};
 use std::io;
 
 // An accepted reading: the counts, the values, and the whole area.
 fn show_accepted(rt: &impl Print, given: &SheetRead, area: &[u8]) -> io::Result<()> {
-    rt.print(Counts {
-        records: given.records,
-        starred: 0,
-    })?;
+    rt.print(Accepted(given.counts))?;
     show_values(rt, &given.list)?;
+    print!(rt; " ")?;
     show_bytes(rt, area)?;
     let not_zero = if zeros_follow(&given.list) {
         ""
@@ -22,13 +19,6 @@ fn show_accepted(rt: &impl Print, given: &SheetRead, area: &[u8]) -> io::Result<
     println!(rt; "{not_zero}")
 }
 
-// A refused reading: its number and place, and whether the area was changed.
-fn show_not_read(rt: &impl Print, refusal: Refusal, area: &[u8]) -> io::Result<()> {
-    let refused = Refused::from(refusal);
-    let changed = if is_marked(area) { "" } else { " changed" };
-    println!(rt; "{refused}{changed}")
-}
-
 pub fn show_answer(
     rt: &impl Print,
     given: &Result<SheetRead, Refusal>,
@@ -36,6 +26,6 @@ pub fn show_answer(
 ) -> io::Result<()> {
     match given {
         Ok(given) => show_accepted(rt, given, area),
-        Err(refusal) => show_not_read(rt, *refusal, area),
+        Err(refusal) => show_refusal(rt, *refusal, area),
     }
 }

@@ -1,7 +1,8 @@
 // One case.
 use crate::answers::show_answer;
 use crate::records::bytes_of;
-use case_lines::marks::MARKS;
+use case_lines::lines::data_of;
+use case_lines::marks::{MARKS, front};
 use case_lines::numbers::numbers;
 use case_lines::sheets::Sheet;
 use case_lines::shown::{Refused, show_records};
@@ -21,7 +22,7 @@ struct Sizes {
 impl Sizes {
     // Those of a line that begins with a letter.
     fn new(head: &[u8]) -> Self {
-        let [_, width, area, buffer] = numbers::<4>(head);
+        let [width, area, buffer] = numbers::<3>(data_of(head));
         Sizes {
             width,
             area,
@@ -39,8 +40,7 @@ fn show_reading(
     records: &[u8],
 ) -> io::Result<()> {
     let mut space = MARKS;
-    let room = sizes.area.min(space.len());
-    let area = &mut space[..room];
+    let area = front(&mut space, sizes.area);
     let given = read(sizes.width, format, wanted, area, records);
     show_answer(rt, &given, area)
 }
@@ -48,23 +48,23 @@ fn show_reading(
 // Writes one sheet into a buffer full of marks, shows the answer, and reads the sheet back from the whole buffer.
 fn show_both(rt: &impl Print, sizes: Sizes, sheet: &Sheet) -> io::Result<()> {
     let mut space = MARKS;
-    let room = sizes.buffer.min(space.len());
-    let buffer = &mut space[..room];
+    let buffer = front(&mut space, sizes.buffer);
     match write(sizes.width, sheet.format, sheet.list, sheet.bytes, buffer) {
         Ok(counts) => {
-            show_records(rt, counts.into(), buffer)?;
+            show_records(rt, counts, buffer)?;
             show_reading(rt, sizes, sheet.format, sheet.list, buffer)
         }
-        Err(refusal) => rt.println(Refused::from(refusal)),
+        Err(refusal) => rt.println(Refused(refusal)),
     }
 }
 
 // A case of writing and reading, which begins with a `W`, or of reading, whose records are those of a line.
-pub fn show_case(rt: &(impl Print + AllocGlobal), sheet: &Sheet) -> io::Result<()> {
+pub fn show_case(rt: &impl Print, sheet: &Sheet) -> io::Result<()> {
     let sizes = Sizes::new(sheet.head);
     if sheet.head.starts_with(b"W") {
         return show_both(rt, sizes, sheet);
     }
-    let records = bytes_of(rt.alloc(), sheet.bytes)?;
-    show_reading(rt, sizes, sheet.format, sheet.list, &records)
+    let mut space = MARKS;
+    let records = bytes_of(sheet.bytes, &mut space);
+    show_reading(rt, sizes, sheet.format, sheet.list, records)
 }

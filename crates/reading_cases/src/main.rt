@@ -26,10 +26,12 @@ use std::io;
 fn main(rt: HostRuntime) -> io::Result<()> {
     let input = input_lines(&rt)?;
     let mut lines = input.iter();
+    // By `next`, as a case takes the lines after its first from the same iterator.
     while let Some(line) = lines.next() {
         if line.starts_with(b"*") {
+            // The bytes need be no text, so no `Display` can write them.
             rt.write_all(line)?;
-            rt.write_all(b"\n")?;
+            println!(rt)?;
         } else {
             cases::show_case(&rt, &Sheet::new(line, &mut lines))?;
         }

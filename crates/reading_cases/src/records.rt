@@ -1,9 +1,11 @@
 // The records of a case, from a line in which some bytes are given by two hex digits.
 ghost use Rattle.std.specs.Prelude.{◌≤◌, ◌<◌, length, IfSome};
+ghost use Rattle.std.specs.Iterator.{at_most};
 
-use std::alloc::{AllocError, Global};
+use case_lines::marks::front;
 
-// The number of a hex digit; 0 for any other byte.
+// The number of a hex digit; 0 for any other byte, as the lines are the tests' own and need no refusal. Not by `to_digit`, which
+// takes capital letters too.
 fn hex_digit(byte: u8) -> u8
     ensures { result ≤ 15 }
 {
@@ -27,13 +29,26 @@ fn split_byte(line: &[u8]) -> Option<(u8, &[u8])>
     }
 }
 
-// The bytes of a line.
-pub fn bytes_of(alloc: Global, line: &[u8]) -> Result<Vec<u8>, AllocError> {
-    let mut bytes = Vec::new(alloc);
-    let mut rest = line;
-    while let Some((byte, others)) = split_byte(rest) {
-        bytes.push(byte)?;
-        rest = others;
+// The bytes of a line, in order.
+#[derive(PartialEq, Eq, Debug, Drop)]
+struct Bytes<'a>(&'a [u8]);
+
+impl Iterator for Bytes<'_> {
+    type Item = u8;
+
+    ghost remaining = { λ b. at_most (length b.0.now) };
+
+    fn next(&mut self) -> Option<u8> {
+        let (byte, rest) = split_byte(self.0)?;
+        self.0 = rest;
+        Some(byte)
     }
-    Ok(bytes)
+}
+
+// The bytes of a line, laid from the front of `space` on, as many as fit.
+pub fn bytes_of<'a>(line: &[u8], space: &'a mut [u8]) -> &'a mut [u8] {
+    for (to, byte) in space.iter_mut().zip(Bytes(line)) {
+        *to = byte;
+    }
+    front(space, Bytes(line).count())
 }

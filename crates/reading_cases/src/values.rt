@@ -6,7 +6,7 @@ use list_elements::{Decimal, List, Text, Value};
 use std::{fmt, io};
 
 // A value as it is printed.
-#[derive(Clone, Copy)]
+#[derive(Clone, Copy, PartialEq, Eq, Debug)]
 struct Shown(Value);
 
 impl fmt::Display for Shown {

@@ -1,15 +1,7 @@
 // The answers of writing.
-use case_lines::marks::is_marked;
-use case_lines::shown::{Refused, show_records};
+use case_lines::shown::{show_records, show_refusal};
 use sheet_walk::{Counts, Refusal};
 use std::io;
-
-// A refusal's number and place, and whether the buffer was changed.
-fn show_refusal(rt: &impl Print, refusal: Refusal, buffer: &[u8]) -> io::Result<()> {
-    let refused = Refused::from(refusal);
-    let changed = if is_marked(buffer) { "" } else { " changed" };
-    println!(rt; "{refused}{changed}")
-}
 
 pub fn show_answer(
     rt: &impl Print,
@@ -17,7 +9,7 @@ pub fn show_answer(
     buffer: &[u8],
 ) -> io::Result<()> {
     match answer {
-        Ok(counts) => show_records(rt, counts.into(), buffer),
+        Ok(counts) => show_records(rt, counts, buffer),
         Err(refusal) => show_refusal(rt, refusal, buffer),
     }
 }

@@ -1,6 +1,6 @@
 // One case.
 use crate::answers::show_answer;
-use case_lines::marks::MARKS;
+use case_lines::marks::{MARKS, front};
 use case_lines::numbers::numbers;
 use case_lines::sheets::Sheet;
 use sheet_write::write::write;
@@ -10,8 +10,7 @@ use std::io;
 pub fn show_case(rt: &impl Print, sheet: &Sheet) -> io::Result<()> {
     let [width, room] = numbers::<2>(sheet.head);
     let mut space = MARKS;
-    let room = room.min(space.len());
-    let buffer = &mut space[..room];
+    let buffer = front(&mut space, room);
     let answer = write(width, sheet.format, sheet.list, sheet.bytes, buffer);
     show_answer(rt, answer, buffer)
 }

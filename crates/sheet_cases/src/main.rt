@@ -14,6 +14,7 @@ use std::io;
 fn main(rt: HostRuntime) -> io::Result<()> {
     let input = input_lines(&rt)?;
     let mut lines = input.iter();
+    // By `next`, as a case takes the lines after its first from the same iterator.
     while let Some(head) = lines.next() {
         cases::show_case(&rt, &Sheet::new(head, &mut lines))?;
     }

@@ -4,7 +4,7 @@ use Rattle.std.specs.Prelude.{◌≡◌, cond, List, [], ◌∷◌, map, ℕ, eq
 use Prim.Native.String.{String}
 use Rattle.buffer.specs.Characters.{blank, bytes}
 use Rattle.field_written.specs.Numeral.{I, F, plain}
-use Rattle.field_written.specs.Written.{starred, after_integer, put_decimal, after_decimal, put_starred}
+use Rattle.field_written.specs.Written.{field, starred, put_decimal, decimal_part, put_starred}
 use Rattle.field_read.specs.Read.{read_field, read_refusal, read_units, read_places}
 
 pub data Example : Type 0 where
@@ -19,10 +19,10 @@ pub data Answer : Type 0 where
   writes : List ℕ → (stars : ℕ) → Answer
   reads : (refusal : ℕ) (u : ℤ) (s : ℕ) → Answer
 
--- by the definitions: the field in a buffer of w blanks; the field read
+-- by the definitions: the field, a decimal's in w blanks; the field read
 unfoldable pub computed : Example → Answer
-computed (integer w n t k) = writes (after_integer plain (replicate w blank) 0 w n) (cond (starred plain I w n) 1 0)
-computed (decimal w d u s t k) = writes (after_decimal plain (replicate w blank) 0 w d u s) (put_starred (put_decimal plain w d u s))
+computed (integer w n t k) = writes (field plain I w n) (cond (starred plain I w n) 1 0)
+computed (decimal w d u s t k) = writes (decimal_part plain (replicate w blank) d u s) (put_starred (put_decimal plain w d u s))
 computed (read w d t u s) =
     let r = cond (eqb (length (bytes t)) w) (read_field (F d) (bytes t)) None in
     reads (read_refusal r) (read_units r) (read_places r)

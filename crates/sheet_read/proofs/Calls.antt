@@ -22,7 +22,7 @@ use Rattle.sheet_walk.specs.declared.Refusal.TheVariants.{Element, TextArea, Fie
 use Rattle.sheet_walk.proofs.Covering.{in-put, in-stopped}
 use Rattle.sheet_rows.specs.Rows as rows
 use Rattle.sheet_rows.specs.Rows.{Row, passed, then, in_order, format_row, rows_before, after_rows, records_in, walk_under}
-use Rattle.sheet_rows.specs.Promises.{BadElement, RowTold, RefusedWith, Says}
+use Rattle.sheet_rows.specs.Promises.{ElementRefused, RowTold, RefusedWith, Says}
 use Rattle.sheet_rows.proofs.RowLaws.{rows_say, walk_under_lem}
 use Rattle.read_passes.specs.Given.{Gathered, gathered}
 use Rattle.read_passes.proofs.GatheredLaws.{Gathers, Refuses, Told, told, AllReadable}
@@ -86,10 +86,10 @@ wanted_says c =
 
     told_so : (k : ListCheck) → wanted_check c.wanted ≡ k → RowTold (WantedPass c) (WantedAnswers c) (wanted_rows k (kinds_of c) (length c.area))
     told_so (Ok u) e = told_area e (leb (texts_length (kinds_of c)) (length c.area)) refl
-    told_so (Err p) e = RowTold.answers (WantedAnswers.row_six (BadElement.bad_element e))
+    told_so (Err p) e = RowTold.answers (WantedAnswers.row_six (ElementRefused.bad_element e))
 
     answers : {k p : ℕ} → WantedAnswers c k p → RefusedWith (wanted_rows (wanted_check c.wanted) (kinds_of c) (length c.area)) k p
-    answers (WantedAnswers.row_six (BadElement.bad_element {p} e)) =
+    answers (WantedAnswers.row_six (ElementRefused.bad_element {p} e)) =
         record { why = Element p; is = element_refuses (wanted_check c.wanted) (kinds_of c) (length c.area) e; number_is = refl; place_is = refl }
     answers (WantedAnswers.no_room g l) =
         record {

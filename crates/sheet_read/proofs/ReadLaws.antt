@@ -1,6 +1,6 @@
 -- What the inner functions of reading do, from what their callees say.
 -- Assumes nothing.
-use Rattle.std.proofs.Common.{Bor, ◌≡◌, refl, sym, ap, subst, ◌∙◌, true, false, List, map, ℕ, ◌/◌, length}
+use Rattle.std.proofs.Common.{Bor, ◌≡◌, refl, sym, ◌∙◌, true, false, List, ℕ, ◌/◌, length}
 use Rattle.std.specs.Prelude.{leb, Result, Ok, Err}
 use Rattle.format_items.specs.Items.{Items}
 use Rattle.format_grammar.specs.Check as formats
@@ -10,7 +10,7 @@ use Rattle.list_elements.specs.Limits.{ListCheck, good, bad, texts_length}
 use Rattle.list_elements.specs.Contents.{Content}
 use Rattle.list_elements.specs.declared.BadElement.{BadElement}
 use Rattle.list_elements.specs.declared.Element.{Element}
-use Rattle.sheet_walk.specs.Given as given
+use Rattle.list_elements.specs.Elements as elements
 use Rattle.sheet_walk.specs.Steps.{width_right}
 use Rattle.sheet_walk.specs.Promises.{WidthRight}
 use Rattle.sheet_walk.specs.Walk.{sheet, walk}
@@ -114,5 +114,5 @@ module _ (R : ℕ) (text : List ℕ) (x : Result (Bor (List Element)) BadElement
   format_text w {why} e = go x
     where
       go : (y : Result (Bor (List Element)) BadElement) → ReadText R text y room records (Err (refusal.Format why)) found
-      go (Ok es) = format_refuses R text good (given.kinds_of es.now) room records w e
+      go (Ok es) = format_refuses R text good (elements.kinds_of es.now) room records w e
       go (Err b) = λ kinds. format_refuses R text (Err b) kinds room records w e

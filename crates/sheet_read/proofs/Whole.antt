@@ -1,11 +1,11 @@
 -- The public call, from what its parts do.
 -- Assumes nothing.
-use Rattle.std.proofs.Common.{◌≡◌, refl, sym, ap, subst, ◌∙◌, false, List, [], map, ℕ, ◌≤◌, length, take, arith, Bor}
+use Rattle.std.proofs.Common.{◌≡◌, refl, sym, ap, ◌∙◌, false, List, [], map, ℕ, length, take, arith, Bor}
 use Rattle.std.specs.Prelude.{Result, Ok, Err}
 use Rattle.std.specs.List.{take-map}
 use Rattle.std.proofs.lemmas.List.{length-map}
 use Rattle.list_elements.specs.Elements.{value_of, kind_of, values}
-use Rattle.list_elements.specs.Limits.{good, most_elements, may_be_wanted, wanted_check}
+use Rattle.list_elements.specs.Limits.{most_elements, may_be_wanted, wanted_check}
 use Rattle.list_elements.specs.Checked.{CheckedAs}
 use Rattle.list_elements.proofs.GoodLaws.{bad_not_good, check_good}
 use lib.ListN.{length-take}
@@ -14,13 +14,13 @@ use Rattle.list_elements.specs.Contents.{Content, laid_texts, values_from, list_
 use Rattle.list_elements.specs.declared.BadElement.{BadElement}
 use Rattle.list_elements.specs.declared.Element.{Element}
 use Rattle.list_elements.specs.declared.List as carried
-use Rattle.sheet_walk.specs.Given as given
+use Rattle.list_elements.specs.Elements as elements
 use Rattle.sheet_walk.specs.declared.Refusal.{Refusal}
 use Rattle.sheet_walk.specs.declared.Refusal.TheVariants.{RecordWidth}
 use Rattle.sheet_walk.specs.Steps.{width_right}
 use Rattle.sheet_read.proofs.ReadLaws.{width_refuses}
 use Rattle.sheet_rows.proofs.Loads as loads
-use Rattle.read_passes.specs.Passes.{Found, SomeFound}
+use Rattle.read_passes.specs.Passes.{Found}
 use Rattle.sheet_walk.specs.Answers.{answer_number, answer_place, answer_records, answer_starred}
 use Rattle.sheet_read.specs.Reading.{Reading, accepts, refuses, reading, answer_of, answer_in, list_in, list_given, area_of, read_answer, read_list, read_area, reading_number, reading_place, reading_records, reading_starred}
 use Rattle.sheet_read.specs.Parts.{WantedWithin, ending_of, Did, ReadText}
@@ -54,7 +54,7 @@ module _ (c : Call) where
   pub width_answered : width_right c.R ≡ false → Answered (becomes c) c.area (Err RecordWidth) c.area
   width_answered e = answered_refused (refused_from (becomes c) (width_refuses c.R c.format (wanted_check c.wanted) (kinds_of c) (length c.area) c.records e {found = []}).ends)
 
-  pub kinds_wanted : (es : List Element) → es ≡ take c.wanted.count c.wanted.elements → given.kinds_of es ≡ kinds_of c
+  pub kinds_wanted : (es : List Element) → es ≡ take c.wanted.count c.wanted.elements → elements.kinds_of es ≡ kinds_of c
   unfolding values
   kinds_wanted es e = loads.kinds_are es ∙ ap (map kind_of) (ap (map value_of) e ∙ sym (take-map value_of c.wanted.count c.wanted.elements))
 
@@ -80,7 +80,7 @@ module _ (c : Call) where
       pub wanted_is : x ≡ Ok es
       pub cs : List Content
       pub found_all : Found c.records es.now found (length c.area) cs
-      pub answered : {l : carried.List} {after : List ℕ} → l ≡ list_of (values_from 0 cs) → after ≡ laid_texts c.area cs → Answered (becomes c) c.area (Ok (record { records = k; list = l })) after
+      pub answered : {l : carried.List} {after : List ℕ} → l ≡ list_of (values_from 0 cs) → after ≡ laid_texts c.area cs → Answered (becomes c) c.area (Ok (record { counts = record { records = k; starred = 0 }; list = l })) after
 
     pub read_accepted : {k : ℕ} → r ≡ Ok k → WantedWithin x (length found) → Accepting k
     read_accepted {k} e within =

@@ -1,13 +1,12 @@
 -- What the inner functions of reading do. (Nothing here need be believed: the public call's contract does not speak of it.)
 -- Assumes nothing.
 use Rattle.std.specs.Prelude.{◌≡◌, List, ℕ, ◌≤◌, length, Result, Ok, Err}
-use Rattle.std.proofs.Common.{Bor}
-use Rattle.list_elements.specs.Elements.{Kind}
+use Rattle.std.specs.Borrow.{Bor}
+use Rattle.list_elements.specs.Elements.{Kind, kinds_of}
 use Rattle.list_elements.specs.Limits.{good}
 use Rattle.list_elements.specs.Contents.{Content}
 use Rattle.list_elements.specs.declared.BadElement.{BadElement}
 use Rattle.list_elements.specs.declared.Element.{Element}
-use Rattle.sheet_walk.specs.Given.{kinds_of}
 use Rattle.sheet_walk.specs.declared.Refusal.{Refusal}
 use Rattle.read_passes.specs.Passes.{FoundSoFar}
 use Rattle.sheet_read.specs.Reading.{Reading, accepts, refuses, reading_of}

@@ -15,7 +15,7 @@ use Rattle.sheet_walk.specs.Laid.{columns}
 use Rattle.sheet_walk.specs.Promises.{EndsWith, StopsWith, elements_put, numbers_from}
 use Rattle.sheet_walk.specs.declared.Refusal.{Refusal}
 use Rattle.sheet_rows.specs.Rows.{records_in}
-use Rattle.sheet_rows.specs.Promises.{RowsPassed, RowAnswers, BadElement}
+use Rattle.sheet_rows.specs.Promises.{RowsPassed, RowAnswers, ElementRefused}
 use Rattle.read_passes.specs.Given.{Given, gives, nothing, field_gives, kind_at}
 use Rattle.sheet_walk.specs.Answers.{Answer, answer_number, answer_place, answer_records, answer_starred}
 use Rattle.sheet_read.specs.Reading.{Reading, accepts, refuses, reading, read_answer, read_list, read_area}
@@ -68,7 +68,7 @@ pub record WantedPass (c : Call) : Type 0 where
 
 -- one of them answers with a number and a place
 pub data WantedAnswers (c : Call) : ℕ → ℕ → Type 0 where
-  row_six : {k p : ℕ} → BadElement (wanted_check c.wanted) k p → WantedAnswers c k p
+  row_six : {k p : ℕ} → ElementRefused (wanted_check c.wanted) k p → WantedAnswers c k p
   no_room : wanted_check c.wanted ≡ good → length c.area < texts_length (kinds_of c) → WantedAnswers c 13 0
 
 -- every row before the walk is passed, the format's items being xs

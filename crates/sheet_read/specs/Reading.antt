@@ -66,7 +66,7 @@ area_of area (refuses why) = area
 
 -- the answer and the list of what the code answers; of a refusal the empty list
 abbrev pub answer_in : Result SheetRead Refusal → Answer
-answer_in (Ok r) = Ok (record { records = r.records; starred = 0 })
+answer_in (Ok r) = Ok r.counts
 answer_in (Err why) = Err why
 
 abbrev pub list_in : Result SheetRead Refusal → carried.List

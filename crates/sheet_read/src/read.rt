@@ -5,9 +5,10 @@ ghost use Rattle.sheet_read.specs.Reading.{reading, answer_in, list_in, read_ans
 
 use crate::SheetRead;
 use crate::formats::read_under;
-use list_elements::{Element, List, Value};
+use list_elements::{Element, List};
 use read_passes::giving::give;
-use sheet_walk::{Refusal, WIDEST_RECORD};
+use sheet_walk::width::Width;
+use sheet_walk::{Counts, Refusal};
 
 // Reads the elements wanted under the format from records of this width; their texts are laid in the area. Or refuses, and
 // leaves the area as it was. Of the wanted list only kinds and text lengths are looked at. Any width, any bytes, any list.
@@ -26,22 +27,14 @@ pub fn read(
     ensures records { answer_records (answer_in result) ≡ reading_records (reading width format.now wanted (length area.old) records.now) }
     ensures starred { answer_starred (answer_in result) ≡ reading_starred (reading width format.now wanted (length area.old) records.now) }
 {
-    // Two tests, as in writing.
-    if width < 1 {
-        return Err(Refusal::RecordWidth);
-    }
-    if WIDEST_RECORD < width {
-        return Err(Refusal::RecordWidth);
-    }
+    let width = Width::try_from(width)?;
     let wanted = wanted.wanted();
-    let zero = Element {
-        value: Value::Integer(0),
-    };
-    let mut found = [zero; List::MOST];
+    let mut found = [Element::ZERO; List::MOST];
     let reached = read_under(width, format, wanted, area.len(), records, &mut found)?;
     let list = give(wanted.unwrap(), &found, records, area);
-    Ok(SheetRead {
+    let counts = Counts {
         records: reached,
-        list,
-    })
+        starred: 0,
+    };
+    Ok(SheetRead { counts, list })
 }

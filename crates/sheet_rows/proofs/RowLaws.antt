@@ -18,24 +18,14 @@ use Rattle.format_grammar.proofs.Promises.{accepts_exactly, always_answered}
 use Rattle.format_grammar.proofs.Answering.{numbered, answered_only}
 use Rattle.list_elements.specs.Limits.{ListCheck, good}
 use Rattle.list_elements.specs.Elements.{Kind}
-use Rattle.sheet_walk.specs.Steps.{width_right}
+use Rattle.sheet_walk.specs.Steps.{Records, width_right}
 use Rattle.sheet_walk.specs.Walk.{sheet, walk}
 use Rattle.sheet_walk.specs.Promises.{WidthRight}
-use Rattle.sheet_walk.proofs.WidthLaws.{width_passed, width_right_lem}
+use Rattle.sheet_walk.proofs.WidthLaws.{width_wrong, width_passed, width_right_lem}
 use Rattle.sheet_walk.specs.declared.Refusal.{Refusal}
 use Rattle.sheet_walk.specs.declared.Refusal.TheVariants.{RecordWidth, Format, Element, NoRecord}
-use Rattle.sheet_walk.specs.declared.Records.{Records}
 use Rattle.sheet_rows.specs.Rows.{Row, passed, refused, then, in_order, width_row, format_row, element_row, record_row, rows_before, after_rows, walk_under}
-use Rattle.sheet_rows.specs.Promises.{RowsPassed, RowAnswers, BadElement, RowTold, RefusedWith, Says, ElementRowSays, RowsSay}
-
--- ---- the width's row
-
-wide_not : (R : ℕ) → (WidthRight R → ⊥) → width_right R ≡ false
-wide_not R h = go (width_right R) refl
-  where
-    go : (b : Bool) → width_right R ≡ b → width_right R ≡ false
-    go true e = absurd (h (width_passed R e))
-    go false e = e
+use Rattle.sheet_rows.specs.Promises.{RowsPassed, RowAnswers, ElementRefused, RowTold, RefusedWith, Says, ElementRowSays, RowsSay}
 
 -- ---- the rows before the walk, from what is known of each
 
@@ -71,12 +61,12 @@ module _ (R : ℕ) (text : List ℕ) (list : Row) (n : ℕ) where
 pub element_row_says : ElementRowSays
 element_row_says check = record { told = told_so check refl; passes_only = λ e. ap element_row e; answers_only = λ k p a. answers a }
   where
-    told_so : (k : ListCheck) → check ≡ k → RowTold (check ≡ good) (BadElement check) (element_row k)
+    told_so : (k : ListCheck) → check ≡ k → RowTold (check ≡ good) (ElementRefused check) (element_row k)
     told_so (Ok u) e = RowTold.passes e
-    told_so (Err p) e = RowTold.answers (BadElement.bad_element e)
+    told_so (Err p) e = RowTold.answers (ElementRefused.bad_element e)
 
-    answers : {k p : ℕ} → BadElement check k p → RefusedWith (element_row check) k p
-    answers (BadElement.bad_element {p} e) = record { why = Element p; is = ap element_row e; number_is = refl; place_is = refl }
+    answers : {k p : ℕ} → ElementRefused check k p → RefusedWith (element_row check) k p
+    answers (ElementRefused.bad_element {p} e) = record { why = Element p; is = ap element_row e; number_is = refl; place_is = refl }
 
 -- ---- what the rows before the walk say
 
@@ -139,7 +129,7 @@ module _ (R : ℕ) (text : List ℕ) (list : Row) (P : Type 0) (A : ℕ → ℕ 
           }
 
   answers_rows : {k p : ℕ} → Answered k p → RefusedWith (rows_before R (format_row (formats.outcome text)) list n) k p
-  answers_rows (RowAnswers.wrong_width h) = record { why = RecordWidth; is = width_refuses R text list n (wide_not R h); number_is = refl; place_is = refl }
+  answers_rows (RowAnswers.wrong_width h) = record { why = RecordWidth; is = width_refuses R text list n (width_wrong R h); number_is = refl; place_is = refl }
   answers_rows (RowAnswers.wrong_format_lem w ne a) = format_answers w ne (answered_only text a)
   answers_rows (RowAnswers.wrong_list {xs} {k} {p} w f a) =
       let r = says.answers_only k p a in

@@ -29,8 +29,8 @@ pub data RowAnswers (R : ℕ) (text : List ℕ) (Passes : Type 0) (Answers : ℕ
   no_record : {xs : Items} → WidthRight R → Acceptable text xs → Passes → n ≡ 0 → RowAnswers R text Passes Answers n 9 0
 
 -- row 6 answers
-pub data BadElement (check : ListCheck) : ℕ → ℕ → Type 0 where
-  bad_element : {p : ℕ} → check ≡ bad p → BadElement check 6 p
+pub data ElementRefused (check : ListCheck) : ℕ → ℕ → Type 0 where
+  bad_element : {p : ℕ} → check ≡ bad p → ElementRefused check 6 p
 
 -- ---- the definition says the same
 
@@ -55,7 +55,7 @@ pub record Says (row : Row) (Passes : Type 0) (Answers : ℕ → ℕ → Type 0)
 
 -- row 6, by the list's check
 abbrev pub ElementRowSays : Type 0
-ElementRowSays = (check : ListCheck) → Says (element_row check) (check ≡ good) (BadElement check)
+ElementRowSays = (check : ListCheck) → Says (element_row check) (check ≡ good) (ElementRefused check)
 
 -- the rows before the walk, whatever the list's rows are
 abbrev pub RowsSay : Type 1

@@ -4,11 +4,10 @@ use Rattle.std.specs.Prelude.{cond, List, [], ◌∷◌, ℕ, ◌/◌, eqb, Ok, 
 use Rattle.format_grammar.specs.Check as formats
 use Rattle.list_elements.specs.Limits.{ListCheck}
 use Rattle.list_elements.specs.Elements.{Kind}
-use Rattle.sheet_walk.specs.Steps.{width_right}
+use Rattle.sheet_walk.specs.Steps.{Records, width_right}
 use Rattle.sheet_walk.specs.Walk.{Trace, sheet, walk}
 use Rattle.sheet_walk.specs.declared.Refusal.{Refusal}
 use Rattle.sheet_walk.specs.declared.Refusal.TheVariants.{RecordWidth, Format, Element, NoRecord}
-use Rattle.sheet_walk.specs.declared.Records.{Records}
 
 -- a row is passed, or refuses
 pub data Row : Type 0 where

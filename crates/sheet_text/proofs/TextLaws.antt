@@ -99,13 +99,6 @@ module _ (text : List ℕ) where
       go (Ok u) g f = (g, cc)
       go (Err p) g f = let z : ⊥ = cc in absurd z
 
-  pub read_err : {e : BadElement} → Err e ≡ line_read text → line_check text ≡ Err e
-  read_err {e} f = go (line_check text) refl f
-    where
-      go : (k : ListCheck) → line_check text ≡ k → Err e ≡ list_read k (line_values text) → line_check text ≡ Err e
-      go (Ok u) g h = let z : ⊥ = cc in absurd z
-      go (Err p) g h = let z : p ≡ e = cc in g ∙ ap Err z
-
   module _ {l : carried.List} (e : Ok l ≡ line_read text) where
     read_good : list_check text l ≡ good
     read_good = let r = read_ok e in ap (list_check text) r.1 ∙ text_list_check text ∙ r.0

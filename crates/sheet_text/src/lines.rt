@@ -3,12 +3,13 @@ ghost use Rattle.std.specs.Prelude.{◌≡◌, ◌+◌, ◌≤◌, List, ℕ, []
 ghost use Rattle.number.specs.Digits.{digits_of};
 ghost use Rattle.sheet_text.specs.Output.{decimal_digits, counts_line, refused_line};
 
+use number::MOST_DIGITS;
 use number::digits::digit_count;
 use number::powers::power_of_ten;
 use number::put::put_digits;
 use std::marker::Model;
 
-// A line with its line feed: at most 96 bytes.
+// A line with its line feed: at most 96 bytes. (Fixed memory, so an array and a length, and no `Vec`.)
 #[derive(Drop)]
 pub struct Line {
     bytes: [u8; 96],
@@ -61,10 +62,10 @@ impl Line {
         ensures digits { self.new ≡ self.old ++ decimal_digits n }
         ensures few { length self.new ≤ length self.old + 36 }
     {
-        let high = n / power_of_ten(18);
+        let high = n / power_of_ten(MOST_DIGITS);
         if 0 < high {
             self.push_digits(digit_count(high), high);
-            self.push_digits(18, n);
+            self.push_digits(MOST_DIGITS, n);
         } else {
             self.push_digits(digit_count(n), n);
         }

@@ -15,7 +15,7 @@ use crate::{INPUT, OUTPUT, RECORD_BUFFER};
 use list_text::lines::split_line;
 use sheet_walk::{Counts, Refusal};
 
-// Puts a line from the offset `at` on, and answers the offset after it.
+// Puts a line from the offset `at` on, and answers the offset after it. (Offsets in a buffer of the caller's: fixed memory.)
 fn put_line(output: &mut [u8; OUTPUT], at: usize, line: &Line) -> usize
     requires { at + 96 ≤ length output.old }
     ensures line { output.new ≡ splice output.old at line.now }
@@ -28,7 +28,7 @@ fn put_line(output: &mut [u8; OUTPUT], at: usize, line: &Line) -> usize
     end
 }
 
-// The line of a refused sheet.
+// The line of a refused sheet. (A cast, here and below, as no `From` makes a `u64` of a `usize`.)
 fn refusal_line(refusal: Refusal) -> Line
     ensures { result ≡ refused_line (refusal_number refusal) (refusal_place refusal) }
 {

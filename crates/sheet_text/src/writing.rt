@@ -8,7 +8,7 @@ ghost use Rattle.sheet_text.specs.FromListText.{writing_from, answer_from, buffe
 use list_elements::listed::Listed;
 use list_elements::{BadElement, List};
 use list_text::read::read_list;
-use sheet_walk::width::width_right;
+use sheet_walk::width::Width;
 use sheet_walk::{Counts, Refusal};
 use sheet_write::formats::write_under;
 
@@ -41,9 +41,7 @@ pub fn write_list_text(
     ensures records { answer_records result ≡ writing_records (writing_from width format.now text.now (length buffer.old)) }
     ensures starred { answer_starred result ≡ writing_starred (line_values text.now) (writing_from width format.now text.now (length buffer.old)) }
 {
-    if !width_right(width) {
-        return Err(Refusal::RecordWidth);
-    }
+    let width = Width::try_from(width)?;
     let read = read_list(text);
     write_under(width, format, listed(&read, text), buffer)
 }

@@ -11,11 +11,10 @@ use lib.ListN.{length, drop}
 use Rattle.format_items.specs.Items.{Field}
 use Rattle.format_items.specs.Met.{Met}
 use Rattle.list_elements.specs.Elements.{Kind}
-use Rattle.sheet_walk.specs.Steps.{Step, moves, covers, refused, ends, state, start, field_step, next_record, step, has_field, end_step}
+use Rattle.sheet_walk.specs.Steps.{Records, Step, moves, covers, refused, ends, state, start, field_step, next_record, step, has_field, end_step}
 use Rattle.sheet_walk.specs.Walk.{Sheet, Trace, put, after, pass, returns, at_end, walk}
 use Rattle.sheet_walk.specs.Promises.{EndsWith, RecordsBeyond}
 use Rattle.sheet_walk.specs.declared.Refusal.TheVariants as refusal
-use Rattle.sheet_walk.specs.declared.Records.{Records}
 use Rattle.sheet_walk.specs.declared.State.{State}
 use Rattle.sheet_walk.proofs.StepLaws.{Does, step_does, AtEnd, end_does}
 use Rattle.sheet_walk.proofs.Covering.{ends_put, ends_done, ends_stopped}

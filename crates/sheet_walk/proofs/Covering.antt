@@ -12,11 +12,10 @@ use Rattle.format_items.specs.MetRanges.{MetWithin, AllMetWithin}
 use Rattle.format_items.proofs.MetLaws.{return_index_is}
 use Rattle.list_elements.specs.Elements.{Kind}
 use Rattle.sheet_walk.specs.declared.Refusal.{Refusal}
-use Rattle.sheet_walk.specs.declared.Records.{Records}
 use Rattle.sheet_walk.specs.declared.State.{State}
 use Rattle.sheet_walk.specs.Refusals.{refusal_place}
 use Rattle.sheet_walk.specs.Given.{fields_of}
-use Rattle.sheet_walk.specs.Steps.{What, element, literal, Placement, Step, moves, covers, refused, ends, start, step, end_step}
+use Rattle.sheet_walk.specs.Steps.{Records, What, element, literal, Placement, Step, moves, covers, refused, ends, start, step, end_step}
 use Rattle.sheet_walk.specs.Walk.{Sheet, sheet, Trace, put, done, stopped, after, pass, returns, at_end, walk}
 use Rattle.sheet_walk.specs.Columns.{In, here, there}
 use Rattle.sheet_walk.specs.Promises.{StopsWith, Comes, RefusedThere, RefusedBecause, EndsThere, CoversThere, ItemRefused, EndRefused, LiteralsWide, Walkable, EndsWith, Inside, Suited, place_of, elements_put, numbers_from, CoversInside, CoversReached, ElementsSuited, PutsEach}

@@ -11,15 +11,14 @@ use Rattle.format_items.specs.Met.{Met}
 use Rattle.format_words.specs.Words.{met_of}
 use Rattle.format_words.specs.declared.Word.{Word}
 use Rattle.format_words.specs.declared.Word.TheVariants as word
-use Rattle.list_elements.specs.Elements.{Kind, kind_of, value_of}
+use Rattle.list_elements.specs.Elements.{Kind, kind_of, value_of, kinds_of}
 use Rattle.list_elements.specs.declared.Element.{Element}
 use Rattle.sheet_walk.specs.declared.Refusal.{Refusal}
 use Rattle.sheet_walk.specs.declared.Refusal.TheVariants as refusal
-use Rattle.sheet_walk.specs.declared.Records.{Records}
 use Rattle.sheet_walk.specs.declared.State.{State}
 use Rattle.sheet_walk.specs.declared.Cover.{Cover}
-use Rattle.sheet_walk.specs.Steps.{Step, moves, covers, refused, ends, suits, field_width, element, cover_step, field_step}
-use Rattle.sheet_walk.specs.Given.{kinds_of, suited_width}
+use Rattle.sheet_walk.specs.Steps.{Records, Step, moves, covers, refused, ends, suits, field_width, element, cover_step, field_step}
+use Rattle.sheet_walk.specs.Given.{suited_width}
 use Rattle.sheet_walk.specs.Followed.{CoversAs, AnswersAs}
 
 -- the columns are the field's, where its kind suits

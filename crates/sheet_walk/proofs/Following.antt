@@ -16,11 +16,10 @@ use Rattle.format_words.specs.declared.Word.TheVariants as word
 use Rattle.list_elements.specs.Elements.{Kind}
 use Rattle.sheet_walk.specs.declared.Refusal.{Refusal}
 use Rattle.sheet_walk.specs.declared.Refusal.TheVariants as refusal
-use Rattle.sheet_walk.specs.declared.Records.{Records}
 use Rattle.sheet_walk.specs.declared.State.{State}
 use Rattle.sheet_walk.specs.declared.Cover.{Cover}
 use Rattle.sheet_walk.specs.declared.walk.Walk.{Walk}
-use Rattle.sheet_walk.specs.Steps.{What, element, literal, Placement, Step, moves, covers, refused, ends, cover_step, field_step, x_step, t_step, next_record, step, has_field, end_step}
+use Rattle.sheet_walk.specs.Steps.{Records, What, element, literal, Placement, Step, moves, covers, refused, ends, cover_step, field_step, x_step, t_step, next_record, step, has_field, end_step}
 use Rattle.sheet_walk.specs.Walk.{Sheet, put, done, stopped, after}
 use Rattle.sheet_walk.specs.Promises.{Walkable}
 use Rattle.sheet_walk.specs.Given.{items_of, what_of, Covering, fields_of}
@@ -142,7 +141,7 @@ module _ (w : Walk) where
             covers = covered_covering h.kinds (met_of w.run.chars.now x) w.state p.width p.what e.by;
           };
           room = inside_room h.records.width h.records.count p k;
-          few = omega (arith, k.from, k.to, w.narrow);
+          few = omega (arith, k.from, k.to, w.records.narrow);
         }
 
     pub item_answers : (v : Walk) → SameSheet w v → v.index ≡ w.index + 1 → (r : Result (Option Cover) Refusal) {st : Step} → st ≡ the_step → AnswersAs h.records x w.state st r v.state → NextIs w r v
@@ -314,10 +313,10 @@ field_word t (word.Literal k n) a b c d = absurd (d k n refl)
 module _ (w : Walk) (d : Word) where
   -- the step of a literal's word, for as many columns as it says
   pub literal_at : w.index < length w.run.words.now → {a n m : ℕ} → get_or w.run.words.now w.index d ≡ word.Literal a n → m ≡ n
-      → cover_step w.records w.state (literal (take n (drop a w.run.chars.now))) m w.state.taken ≡ step (sheet_of w).kinds w.records (Met.literal (take n (drop a w.run.chars.now))) w.state
-  literal_at i {a} {n} {m} e g = literal_step (sheet_of w).kinds w.records w.state (take n (drop a w.run.chars.now)) (g ∙ literal_length w d i e)
+      → cover_step (sheet_of w).records w.state (literal (take n (drop a w.run.chars.now))) m w.state.taken ≡ step (sheet_of w).kinds (sheet_of w).records (Met.literal (take n (drop a w.run.chars.now))) w.state
+  literal_at i {a} {n} {m} e g = literal_step (sheet_of w).kinds (sheet_of w).records w.state (take n (drop a w.run.chars.now)) (g ∙ literal_length w d i e)
 
   -- the step of a field's word
   pub field_at : {f : Field ℕ} → met_of w.run.chars.now (get_or w.run.words.now w.index d) ≡ Met.field f
-      → field_step w.records w.state f (drop w.state.taken (sheet_of w).kinds) ≡ step (sheet_of w).kinds w.records (met_of w.run.chars.now (get_or w.run.words.now w.index d)) w.state
-  field_at {f} e = field_is_step (sheet_of w).kinds w.records w.state f ∙ ap (λ x. step (sheet_of w).kinds w.records x w.state) (sym e)
+      → field_step (sheet_of w).records w.state f (drop w.state.taken (sheet_of w).kinds) ≡ step (sheet_of w).kinds (sheet_of w).records (met_of w.run.chars.now (get_or w.run.words.now w.index d)) w.state
+  field_at {f} e = field_is_step (sheet_of w).kinds (sheet_of w).records w.state f ∙ ap (λ x. step (sheet_of w).kinds (sheet_of w).records x w.state) (sym e)

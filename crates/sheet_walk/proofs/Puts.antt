@@ -4,15 +4,15 @@ use Rattle.std.proofs.Common.{◌≡◌, refl, ap, subst, ◌∙◌, List, ℕ, 
 use Rattle.std.specs.Prelude.{Option, None, Some, Result, Ok, Err}
 use Rattle.format_words.specs.declared.run.Run.{Run}
 use Rattle.list_elements.specs.declared.Element.{Element}
-use Rattle.sheet_walk.specs.declared.Records.{Records}
+use Rattle.sheet_walk.specs.declared.records.Records.{Records}
 use Rattle.sheet_walk.specs.declared.Cover.{Cover}
 use Rattle.sheet_walk.specs.declared.Refusal.{Refusal}
 use Rattle.sheet_walk.specs.declared.walk.Walk.{Walk}
-use Rattle.sheet_walk.specs.Walk.{Sheet, Trace, put, done, stopped}
-use Rattle.sheet_walk.specs.Given.{items_of, given_sheet, Roomy}
+use Rattle.sheet_walk.specs.Walk.{Trace, put, done, stopped}
+use Rattle.sheet_walk.specs.Given.{items_of, given_sheet}
 use Rattle.sheet_walk.specs.Promises.{Walkable}
 use Rattle.sheet_walk.proofs.Following.{drop_within}
-use Rattle.sheet_walk.specs.Followed.{GoesBy, SameSheet, sheet_of, left_of, CoverIs, Covers, NextIs}
+use Rattle.sheet_walk.specs.Followed.{GoesBy, sheet_of, left_of, CoverIs, CoversNext, NextIs}
 
 -- how many placements a walk has
 unfoldable pub puts : Trace → ℕ
@@ -24,7 +24,7 @@ module _ {w : Walk} {r : Run} {es : List Element} {rs : Records} (g : GoesBy w r
   pub sheet_is : sheet_of w ≡ given_sheet r es rs
   sheet_is = rw (g.run, g.elements, g.records)
 
-  module _ {v : Walk} {c : Cover} (m : Covers w v c) where
+  module _ {v : Walk} {c : Cover} (m : CoversNext w v c) where
     -- the walk after what covers columns next
     pub goes_on : GoesBy v r es rs
     goes_on = record { run = m.same.run ∙ g.run; elements = ap (λ e. e.now) m.same.elements ∙ g.elements; records = m.same.records ∙ g.records }
@@ -39,7 +39,7 @@ module _ {w : Walk} {r : Run} {es : List Element} {rs : Records} (g : GoesBy w r
 -- ---- what was answered
 
 module _ (w v : Walk) {r : Result (Option Cover) Refusal} (m : NextIs w r v) where
-  pub next_covers : {o : Option Cover} {c : Cover} → r ≡ Ok o → o ≡ Some c → Covers w v c
+  pub next_covers : {o : Option Cover} {c : Cover} → r ≡ Ok o → o ≡ Some c → CoversNext w v c
   next_covers e f = subst (λ z. NextIs w z v) (e ∙ ap Ok f) m
 
   pub next_refused : {why : Refusal} → r ≡ Err why → left_of w ≡ stopped why
@@ -54,5 +54,5 @@ module _ (w v : Walk) {r : Result (Option Cover) Refusal} (m : NextIs w r v) whe
 
 -- ---- the sheet of a run
 
-pub run_walkable : (r : Run) (es : List Element) {rs : Records} → Roomy rs → Walkable (given_sheet r es rs)
-run_walkable r es room = record { items_within = r.within; part_within = drop_within (items_of r) r.back r.within; some_record = room.some_record }
+pub run_walkable : (r : Run) (es : List Element) (rs : Records) → Walkable (given_sheet r es rs)
+run_walkable r es rs = record { items_within = r.within; part_within = drop_within (items_of r) r.back r.within; some_record = rs.some_record }

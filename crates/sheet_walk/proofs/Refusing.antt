@@ -9,9 +9,8 @@ use lib.Seq.{drop-cons}
 use Rattle.format_items.specs.Met.{Met}
 use Rattle.list_elements.specs.Elements.{Kind, integer}
 use Rattle.sheet_walk.specs.declared.Refusal.{Refusal}
-use Rattle.sheet_walk.specs.declared.Records.{Records}
 use Rattle.sheet_walk.specs.declared.State.{State}
-use Rattle.sheet_walk.specs.Steps.{refused, field_width, step, end_step}
+use Rattle.sheet_walk.specs.Steps.{Records, refused, field_width, step, end_step}
 use Rattle.sheet_walk.specs.Walk.{pass}
 use Rattle.sheet_walk.specs.Promises.{ItemRefused, ItemRefusedIs, EndRefused, EndRefusedIs, StopsWith, RefusedThere, RefusedOnlyThere}
 use Rattle.sheet_walk.proofs.Returns.{end_is}

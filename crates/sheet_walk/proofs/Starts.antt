@@ -1,7 +1,11 @@
 -- The words of a run as the items that they stand for.
 -- Assumes nothing.
-use Rattle.std.proofs.Common.{◌≡◌, refl, sym, ap, ◌∙◌, List, [], ◌∷◌, map, ℕ, drop}
-use Rattle.std.specs.Prelude.{◌||◌}
+use Rattle.std.proofs.Common.{◌≡◌, refl, sym, ap, ◌∙◌, ◌⊎◌, inl, inr, List, [], ◌∷◌, map, ℕ, ◌<◌, ◌≤◌, arith, length, drop}
+use Rattle.std.specs.Borrow.{Bor}
+use Rattle.std.specs.Slice.{IsGetRangeResult}
+use Rattle.std.proofs.lemmas.List.{take_rest}
+use lib.ListN.{drop_of_length-le}
+use Rattle.std.specs.Prelude.{◌||◌, Option, None, Some, unwrap_or}
 use Rattle.std.specs.List.{list_any, drop-map}
 use Rattle.format_words.specs.Words.{met_of}
 use Rattle.format_words.specs.declared.Word.{Word}
@@ -28,3 +32,13 @@ fields_are t (w ∷ ws) = rw (field_is t w) (ap (λ b. word_is_field w || b) (fi
 -- of the words from an index on
 pub part_field : (t : List ℕ) (ws : List Word) (i : ℕ) → list_any word_is_field (drop i ws) ≡ has_field (drop i (map (met_of t) ws))
 part_field t ws i = fields_are t (drop i ws) ∙ ap has_field (sym (drop-map (met_of t) i ws))
+
+-- the words from an index on, which may lie past the last one, as the code takes them
+pub words_from : (ws : List Word) (i : ℕ) (o : Option (Bor (List Word))) → IsGetRangeResult ws i (length ws) o → (rest : Bor (List Word)) → rest.now ≡ []
+    → (unwrap_or o rest).now ≡ drop i ws
+words_from ws i None p rest e = e ∙ sym (drop_of_length-le ws (none p.0))
+  where
+    none : (length ws < i) ⊎ (length ws < length ws) → length ws ≤ i
+    none (inl h) = omega arith
+    none (inr h) = omega arith
+words_from ws i (Some part) p rest e = p.0.2 ∙ take_rest ws i

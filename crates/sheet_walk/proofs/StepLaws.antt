@@ -14,10 +14,9 @@ use Rattle.format_items.specs.Met.{Met}
 use Rattle.format_items.specs.MetRanges.{MetWithin}
 use Rattle.list_elements.specs.Elements.{Kind, integer}
 use Rattle.sheet_walk.specs.declared.Refusal.TheVariants as refusal
-use Rattle.sheet_walk.specs.declared.Records.{Records}
 use Rattle.sheet_walk.specs.declared.State.{State}
 use Rattle.sheet_walk.specs.Given.{fields_of}
-use Rattle.sheet_walk.specs.Steps.{What, element, literal, Placement, Step, moves, covers, refused, ends, state, suits, field_width, cover_step, field_step, next_record, step, has_field, end_step}
+use Rattle.sheet_walk.specs.Steps.{Records, What, element, literal, Placement, Step, moves, covers, refused, ends, state, suits, field_width, cover_step, field_step, next_record, step, has_field, end_step}
 use Rattle.sheet_walk.specs.Promises.{ItemRefused, EndRefused, Suited}
 
 -- by a test: the case where it holds, and the case where it does not

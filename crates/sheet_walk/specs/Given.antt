@@ -1,28 +1,25 @@
--- What a walk goes by, as the code has it.
+-- What a walk goes by, as the code has it. (Nothing here need be believed: no public call's contract speaks of it.)
 -- Assumes nothing.
-use Rattle.std.specs.Prelude.{◌≡◌, Bool, true, false, cond, List, [], map, ℕ, ◌*◌, ◌^◌, ◌<◌, ◌≤◌, Option, Some, None, length, drop}
+use Rattle.std.specs.Prelude.{◌≡◌, Bool, true, false, cond, List, [], map, ℕ, Option, Some, None, length, drop}
 use Rattle.format_items.specs.Met.{Met}
 use Rattle.format_items.specs.MetRanges.{MetWithin}
 use Rattle.format_words.specs.Words.{met_of, RunWord}
 use Rattle.format_words.specs.declared.Word.{Word}
 use Rattle.format_words.specs.declared.Word.TheVariants as word
 use Rattle.format_words.specs.declared.run.Run.{Run}
-use Rattle.list_elements.specs.Elements.{Kind, kind_of, value_of, text_length}
-use Rattle.sheet_walk.specs.Steps.{What, element, literal, is_integer, is_decimal, is_logical, is_text}
+use Rattle.list_elements.specs.Elements.{Kind, kinds_of, text_length}
+use Rattle.sheet_walk.specs.Steps.{Records, What, element, literal, is_integer, is_decimal, is_logical, is_text}
 use Rattle.list_elements.specs.declared.Element.{Element}
 use Rattle.sheet_walk.specs.Walk.{Sheet}
 use Rattle.sheet_walk.specs.Promises.{Suited}
-use Rattle.sheet_walk.specs.declared.Records.{Records}
+use Rattle.sheet_walk.specs.declared.records.Records as code
 
 -- the items met
 abbrev pub items_of : Run → List Met
 items_of r = map (met_of r.chars.now) r.words.now
 
--- the kinds of the elements
-abbrev pub kinds_of : List Element → List Kind
-kinds_of es = map (λ e. kind_of (value_of e)) es
-
--- the columns that a field's word covers for an element of a kind, where the kind suits it
+-- the columns that a field's word covers for an element of a kind, where the kind suits it: `suits` and `field_width` of Steps, by
+-- the word
 abbrev pub suited_width : Word → Kind → Option ℕ
 suited_width (word.I w) k = cond (is_integer k) (Some w) None
 suited_width (word.F w d) k = cond (is_decimal k) (Some w) None
@@ -34,16 +31,16 @@ suited_width (word.T n) k = None
 suited_width word.Slash k = None
 suited_width (word.Literal a n) k = None
 
--- what a walk goes by, with the items of a run, these elements and these records
-abbrev pub given_sheet : Run → List Element → Records → Sheet
-given_sheet r es rs = record { items = items_of r; part = drop r.back (items_of r); kinds = kinds_of es; records = rs }
+-- the records of a buffer
+abbrev pub records_of : code.Records → Records
+records_of rs = record { width = rs.width; count = rs.count }
 
--- there is a record, and a byte's place in the records is a number of the machine
-pub record Roomy (rs : Records) : Type 0 where
-  pub some_record : 0 < rs.count
-  pub wide : 1 ≤ rs.width
-  pub narrow : rs.width < 256
-  pub fits : rs.count * rs.width < 2 ^ 63
+-- what a walk goes by, with the items of a run, these elements and these records
+abbrev pub run_sheet : Run → List Element → Records → Sheet
+run_sheet r es rs = record { items = items_of r; part = drop r.back (items_of r); kinds = kinds_of es; records = rs }
+
+abbrev pub given_sheet : Run → List Element → code.Records → Sheet
+given_sheet r es rs = run_sheet r es (records_of rs)
 
 -- ---- what the item of a word covers columns with
 
@@ -77,7 +74,7 @@ fields_of (Met.T n) = 0
 fields_of Met.slash = 0
 fields_of (Met.literal cs) = 0
 
--- whether a word is that of a field
+-- whether a word is that of a field: `is_field` of Steps, by the word
 abbrev pub word_is_field : Word → Bool
 word_is_field (word.I w) = true
 word_is_field (word.F w d) = true

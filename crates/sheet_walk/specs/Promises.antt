@@ -6,13 +6,12 @@ use Rattle.format_items.specs.Met.{Met}
 use Rattle.format_items.specs.MetRanges.{AllMetWithin}
 use Rattle.list_elements.specs.Elements.{Kind, integer}
 use Rattle.sheet_walk.specs.Refusals.{refusal_place}
-use Rattle.sheet_walk.specs.Steps.{width_right, What, element, literal, Placement, suits, field_width, moves, covers, refused, ends, start, step, has_field, end_step}
+use Rattle.sheet_walk.specs.Steps.{width_right, Records, What, element, literal, Placement, suits, field_width, moves, covers, refused, ends, start, step, has_field, end_step}
 use Rattle.sheet_walk.specs.Walk.{Sheet, Trace, put, done, stopped, return, at_end, walk}
 use Rattle.sheet_walk.specs.Columns.{In, CoveredTwice, covered_twice}
 use Rattle.sheet_walk.specs.Laid.{laid, columns}
 use Rattle.sheet_walk.specs.declared.Refusal.{Refusal}
 use Rattle.sheet_walk.specs.declared.Refusal.TheVariants as refusal
-use Rattle.sheet_walk.specs.declared.Records.{Records}
 use Rattle.sheet_walk.specs.declared.State.{State}
 
 -- ---- 'The record width R is 1 to 255'

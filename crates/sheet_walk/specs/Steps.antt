@@ -6,12 +6,16 @@ use Rattle.format_items.specs.Met.{Met}
 use Rattle.list_elements.specs.Elements.{Kind, integer, decimal, logical, text, text_length}
 use Rattle.sheet_walk.specs.declared.Refusal.{Refusal}
 use Rattle.sheet_walk.specs.declared.Refusal.TheVariants as refusal
-use Rattle.sheet_walk.specs.declared.Records.{Records}
 use Rattle.sheet_walk.specs.declared.State.{State}
 
 -- 'The record width R is 1 to 255.'
 abbrev pub width_right : ℕ → Bool
 width_right R = leb 1 R && leb R 255
+
+-- 'A lent buffer of B bytes holds B / R whole records, rounded down': their width and their number
+pub record Records : Type 0 where
+  pub width : ℕ
+  pub count : ℕ
 
 -- ---- where the walk stands, and what is covered
 

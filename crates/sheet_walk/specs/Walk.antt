@@ -5,9 +5,8 @@ use Rattle.std.specs.Prelude.{List, [], ◌∷◌, ℕ, zero, suc, ◌+◌, leng
 use Rattle.format_items.specs.Items.{Items}
 use Rattle.format_items.specs.Met.{Met, met, return_part}
 use Rattle.list_elements.specs.Elements.{Kind}
-use Rattle.sheet_walk.specs.Steps.{Placement, Step, moves, covers, refused, ends, start, step, end_step}
+use Rattle.sheet_walk.specs.Steps.{Records, Placement, Step, moves, covers, refused, ends, start, step, end_step}
 use Rattle.sheet_walk.specs.declared.Refusal.{Refusal}
-use Rattle.sheet_walk.specs.declared.Records.{Records}
 use Rattle.sheet_walk.specs.declared.State.{State}
 
 -- what the walk goes by: the items met, those of the part to return to, the kinds of the elements, and the records

@@ -1,6 +1,7 @@
 // The walk over the items met, for writing and reading: what covers columns, in order, and how it ends.
 #![tactic(auto)]
 
+pub mod records;
 pub mod refusals;
 pub mod walk;
 pub mod width;
@@ -27,15 +28,8 @@ pub enum Refusal {
 // The widest record.
 pub const WIDEST_RECORD: usize = 255;
 
-// The records that a buffer holds: their width and their number.
-#[derive(Clone, Copy, PartialEq, Eq, Debug)]
-pub struct Records {
-    pub width: usize,
-    pub count: usize,
-}
-
 // Where the walk stands: the record, from 0; the column, from 1; the elements taken.
-#[derive(Clone, Copy)]
+#[derive(Clone, Copy, PartialEq, Eq, Debug)]
 pub struct State {
     pub row: usize,
     pub column: usize,
@@ -44,7 +38,7 @@ pub struct State {
 
 // Columns covered: where the first one stands in the records, and how many they are; the item that covers them, and how many
 // elements were taken before it.
-#[derive(Clone, Copy)]
+#[derive(Clone, Copy, PartialEq, Eq, Debug)]
 pub struct Cover {
     pub at: usize,
     pub width: usize,

@@ -6,7 +6,8 @@ ghost use Rattle.list_elements.specs.Elements.{kind_of};
 ghost use Rattle.sheet_walk.specs.Steps.{has_field};
 ghost use Rattle.sheet_walk.specs.Given.{items_of, word_is_field, suited_width};
 
-use crate::{Cover, Records, Refusal, State};
+use crate::records::Records;
+use crate::{Cover, Refusal, State};
 use format_words::Word;
 use format_words::run::Run;
 use list_elements::{Element, Value};
@@ -21,8 +22,6 @@ pub struct Walk<'a> {
     index: usize,
     state: State,
     ghost returns_is: { returns ≡ has_field (drop run.back (items_of run)) },
-    ghost narrow: { records.width < 256 },
-    ghost fits: { records.count * records.width < 2 ^ 63 },
     ghost in_record: { state.row < records.count },
     ghost from: { 1 ≤ state.column },
     ghost to: { state.column ≤ records.width + 1 },
@@ -72,7 +71,8 @@ impl<'a> Walk<'a> {
     ghost use Rattle.format_items.specs.Met.{Met};
     ghost use Rattle.sheet_walk.specs.Steps.{What, cover_step, field_step, x_step, t_step, next_record};
     ghost use Rattle.sheet_walk.specs.Walk.{walk};
-    ghost use Rattle.sheet_walk.specs.Given.{kinds_of, given_sheet, Roomy};
+    ghost use Rattle.list_elements.specs.Elements.{kinds_of};
+    ghost use Rattle.sheet_walk.specs.Given.{given_sheet, records_of};
     ghost use Rattle.sheet_walk.specs.Followed.{GoesBy, sheet_of, left_of, SameSheet, MovesAs, CoversAs, AnswersAs, NextIs};
 
     // A slash, and a return: to the next record.
@@ -80,7 +80,7 @@ impl<'a> Walk<'a> {
     fn next_record(&mut self) -> Result<(), Refusal>
         ensures same { SameSheet self.old self.new }
         ensures index { self.new.index ≡ self.old.index }
-        ensures moves { MovesAs (next_record self.old.records self.old.state) result self.new.state }
+        ensures moves { MovesAs (next_record (records_of self.old.records) self.old.state) result self.new.state }
     {
         let row = self.state.row + 1;
         if row < self.records.count {
@@ -98,7 +98,7 @@ impl<'a> Walk<'a> {
     fn skip(&mut self, n: usize) -> Result<(), Refusal>
         ensures same { SameSheet self.old self.new }
         ensures index { self.new.index ≡ self.old.index }
-        ensures moves { MovesAs (x_step self.old.records self.old.state n) result self.new.state }
+        ensures moves { MovesAs (x_step (records_of self.old.records) self.old.state n) result self.new.state }
     {
         if n <= self.records.width + 1 - self.state.column {
             self.state.column += n;
@@ -115,7 +115,7 @@ impl<'a> Walk<'a> {
         requires { 1 ≤ n }
         ensures same { SameSheet self.old self.new }
         ensures index { self.new.index ≡ self.old.index }
-        ensures moves { MovesAs (t_step self.old.records self.old.state n) result self.new.state }
+        ensures moves { MovesAs (t_step (records_of self.old.records) self.old.state n) result self.new.state }
     {
         if n <= self.records.width {
             self.state.column = n;
@@ -132,7 +132,7 @@ impl<'a> Walk<'a> {
         requires { taken ≤ length self.old.elements.now }
         ensures same { SameSheet self.old self.new }
         ensures index { self.new.index ≡ self.old.index }
-        ensures covers { (what : What) → CoversAs self.old.records word self.old.state.taken (cover_step self.old.records self.old.state what width taken) result self.new.state }
+        ensures covers { (what : What) → CoversAs (records_of self.old.records) word self.old.state.taken (cover_step (records_of self.old.records) self.old.state what width taken) result self.new.state }
     {
         let place = self.state.taken;
         let at = self.state.row * self.records.width + (self.state.column - 1);
@@ -151,7 +151,7 @@ impl<'a> Walk<'a> {
     fn field(&mut self, word: Word) -> Result<Option<Cover>, Refusal>
         ensures same { SameSheet self.old self.new }
         ensures index { self.new.index ≡ self.old.index }
-        ensures answers { (t : List ℕ) (f : Field ℕ) → met_of t word ≡ Met.field f → AnswersAs self.old.records word self.old.state (field_step self.old.records self.old.state f (drop self.old.state.taken (kinds_of self.old.elements.now))) result self.new.state }
+        ensures answers { (t : List ℕ) (f : Field ℕ) → met_of t word ≡ Met.field f → AnswersAs (records_of self.old.records) word self.old.state (field_step (records_of self.old.records) self.old.state f (drop self.old.state.taken (kinds_of self.old.elements.now))) result self.new.state }
     {
         let place = self.state.taken;
         let Some(element) = self.elements.get(place) else {
@@ -167,17 +167,16 @@ impl<'a> Walk<'a> {
     // The walk at its start.
     #[inline(always)]
     pub fn new(run: Run<'a>, elements: &'a [Element], records: Records) -> Walk<'a>
-        requires { Roomy records }
         ensures goes_by { GoesBy result run.entry elements.now records }
         ensures left { left_of result ≡ walk (given_sheet run.entry elements.now records) }
         ensures none_taken { result.state.taken ≡ 0 }
     {
-        let returns = has_field(&run.words[run.back..]);
+        let part = run.words.get(run.back..).unwrap_or(&[]);
         Walk {
             run,
             elements,
             records,
-            returns,
+            returns: has_field(part),
             index: 0,
             state: State {
                 row: 0,
@@ -195,7 +194,8 @@ impl<'a> Walk<'a> {
         self.state.row + 1
     }
 
-    // The next item that covers columns; nothing where the walk ends before.
+    // The next item that covers columns; nothing where the walk ends before. (No `Iterator`: that has one end, and a walk ends or
+    // is refused; and no `for` over the words, since a return goes back among them.)
     #[inline(always)]
     pub fn next(&mut self) -> Result<Option<Cover>, Refusal>
         ensures { NextIs self.old result self.new }

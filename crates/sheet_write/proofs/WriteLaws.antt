@@ -1,6 +1,6 @@
 -- What the inner functions of writing do, from what their callees say.
 -- Assumes nothing.
-use Rattle.std.proofs.Common.{◌≡◌, refl, sym, ap, subst, ◌∙◌, false, List, map, ℕ, ◌*◌, ◌/◌, ◌^◌, ◌<◌, ◌≤◌, length, replicate, arith}
+use Rattle.std.proofs.Common.{◌≡◌, refl, sym, ap, subst, ◌∙◌, false, List, map, ℕ, ◌*◌, ◌/◌, ◌≤◌, length, replicate, arith}
 use Rattle.std.specs.Prelude.{Result, Ok, Err}
 use native.Mathlib.Nat.{mul-le-mul_right}
 use Rattle.buffer.specs.Splice.{splice}
@@ -17,18 +17,18 @@ use Rattle.list_elements.specs.declared.listed.Listed.{Listed}
 use Rattle.sheet_walk.specs.Answers.{Answer}
 use Rattle.sheet_walk.specs.Walk.{Sheet, sheet, walk}
 use Rattle.sheet_walk.specs.Laid.{laid, blanked, written}
-use Rattle.sheet_walk.specs.Given.{given_sheet, Roomy}
+use Rattle.sheet_walk.specs.Given.{run_sheet, given_sheet}
 use Rattle.sheet_walk.specs.declared.Refusal.{Refusal}
 use Rattle.sheet_walk.specs.declared.Refusal.TheVariants as refusal
-use Rattle.sheet_walk.specs.declared.Records.{Records}
+use Rattle.sheet_walk.specs.declared.records.Records as code
 use Rattle.sheet_walk.proofs.Covering.{covers_reached}
 use Rattle.sheet_walk.proofs.Puts.{run_walkable}
-use Rattle.sheet_walk.specs.Steps.{width_right}
+use Rattle.sheet_walk.specs.Steps.{Records, width_right}
 use Rattle.sheet_walk.specs.Promises.{WidthRight}
 use Rattle.sheet_rows.specs.Rows as rows_of_lem
 use Rattle.sheet_rows.specs.Rows.{format_row, element_row, rows_before, records_in}
 use Rattle.sheet_rows.proofs.RowLaws as row
-use Rattle.sheet_rows.proofs.Loads.{kinds_are, run_sheet}
+use Rattle.sheet_rows.proofs.Loads.{kinds_are, run_sheet_is}
 use Rattle.write_passes.specs.Placed.{characters, starred_in, Judged, accepted, refused, judged}
 use Rattle.write_passes.specs.Passes.{values_in, ending_of}
 use Rattle.write_passes.proofs.PlacedLaws.{judged_ends}
@@ -41,11 +41,7 @@ ending_accepted : (j : Judged) {n : ℕ} → ending_of j ≡ Ok n → j ≡ acce
 ending_accepted (accepted m) {n} e = let z : m ≡ n = cc in ap accepted z
 ending_accepted (refused why) e = let z : ⊥ = cc in absurd z
 
-ending_refused : (j : Judged) {why : Refusal} → ending_of j ≡ Err why → j ≡ refused why
-ending_refused (accepted m) e = let z : ⊥ = cc in absurd z
-ending_refused (refused x) {why} e = let z : x ≡ why = cc in ap refused z
-
-module _ (l : Listed) (r : Run) (rs : Records) where
+module _ (l : Listed) (r : Run) (rs : code.Records) where
   abbrev h : Sheet
   h = given_sheet r l.elements.now rs
 
@@ -54,13 +50,10 @@ module _ (l : Listed) (r : Run) (rs : Records) where
     accepts g = ending_accepted (judged (values_in l) (walk h)) (sym is ∙ g)
 
     -- the records reached lie in the buffer
-    pub reached : {n B : ℕ} → e ≡ Ok n → Roomy rs → rs.count * rs.width ≤ B → n * rs.width ≤ B
-    reached {n} {B} g room fits =
-        let m = (covers_reached h (run_walkable r l.elements.now room) n (judged_ends (values_in l) (walk h) n (accepts g))).0 in
+    pub reached : {n B : ℕ} → e ≡ Ok n → rs.count * rs.width ≤ B → n * rs.width ≤ B
+    reached {n} {B} g fits =
+        let m = (covers_reached h (run_walkable r l.elements.now rs) n (judged_ends (values_in l) (walk h) n (accepts g))).0 in
         omega (arith, mul-le-mul_right rs.width m)
-
-    pub wrote_refused : {why : Refusal} {before : List ℕ} → e ≡ Err why → Wrote rs.width l.area.now (values_in l) before (walked (values_in l) (walk h)) (Err why) before
-    wrote_refused g = rw (ending_refused (judged (values_in l) (walk h)) (sym is ∙ g)) (record { answers = refl; bytes = refl })
 
     pub wrote_accepted : {n starred : ℕ} {before blank after : List ℕ} → e ≡ Ok n → blank ≡ splice before 0 (replicate (n * rs.width) 32)
         → starred ≡ starred_in (values_in l) (walk h) → after ≡ laid rs.width (characters l.area.now (values_in l)) (walk h) blank
@@ -68,11 +61,20 @@ module _ (l : Listed) (r : Run) (rs : Records) where
     unfolding written blanked
     wrote_accepted g b s a = rw (accepts g) (record { answers = rw s; bytes = rw (← b) a })
 
-  -- under the sheet of the format
-  pub wrote_under : {format : List ℕ} (k : RunHeld format r) {before : List ℕ} {a : Answer} {after : List ℕ}
-      → Wrote rs.width l.area.now (values_in l) before (walked (values_in l) (walk h)) a after
-      → Wrote rs.width l.area.now (values_in l) before (walked (values_in l) (walk (sheet k.items (map kind_of (values_in l)) rs))) a after
-  wrote_under k {before} {a} {after} w = subst (λ (z : Sheet). Wrote rs.width l.area.now (values_in l) before (walked (values_in l) (walk z)) a after) (run_sheet k l.elements.now rs ∙ ap (λ ks. sheet k.items ks rs) (kinds_are l.elements.now)) w
+-- under the sheet of the format
+pub wrote_under : (l : Listed) (r : Run) (rs : Records) {format : List ℕ} (k : RunHeld format r) {before : List ℕ} {a : Answer} {after : List ℕ}
+    → Wrote rs.width l.area.now (values_in l) before (walked (values_in l) (walk (run_sheet r l.elements.now rs))) a after
+    → Wrote rs.width l.area.now (values_in l) before (walked (values_in l) (walk (sheet k.items (map kind_of (values_in l)) rs))) a after
+wrote_under l r rs k {before} {a} {after} w =
+    subst (λ (z : Sheet). Wrote rs.width l.area.now (values_in l) before (walked (values_in l) (walk z)) a after)
+    (run_sheet_is k l.elements.now rs ∙ ap (λ ks. sheet k.items ks rs) (kinds_are l.elements.now)) w
+
+-- for records as wide as another number that is the same
+pub wrote_as : (l : Listed) (r : Run) (count : ℕ) {R m : ℕ} → m ≡ R → {before : List ℕ} {a : Answer} {after : List ℕ}
+    → Wrote m l.area.now (values_in l) before (walked (values_in l) (walk (run_sheet r l.elements.now (record { width = m; count = count })))) a after
+    → Wrote R l.area.now (values_in l) before (walked (values_in l) (walk (run_sheet r l.elements.now (record { width = R; count = count })))) a after
+wrote_as l r count e {before} {a} {after} w =
+    subst (λ k. Wrote k l.area.now (values_in l) before (walked (values_in l) (walk (run_sheet r l.elements.now (record { width = k; count = count })))) a after) e w
 
 -- ---- the rows before the walk
 

@@ -22,7 +22,7 @@ use Rattle.sheet_walk.specs.Laid.{offset, columns}
 use Rattle.sheet_walk.specs.Promises.{EndsWith, Inside, Suited, StopsWith, elements_put, numbers_from}
 use Rattle.sheet_walk.specs.declared.Refusal.{Refusal}
 use Rattle.sheet_rows.specs.Rows.{records_in}
-use Rattle.sheet_rows.specs.Promises.{RowsPassed, RowAnswers, BadElement}
+use Rattle.sheet_rows.specs.Promises.{RowsPassed, RowAnswers, ElementRefused}
 use Rattle.write_passes.specs.Placed.{value_at, characters}
 use Rattle.sheet_walk.specs.Answers.{Answer, answer_number, answer_place, answer_records, answer_starred}
 use Rattle.sheet_write.specs.Writing.{Writing, accepts, refuses, writing, write_answer, write_buffer}
@@ -65,7 +65,7 @@ Walks c xs = RowsPassed c.R c.format (list_check c.area c.list ≡ good) (length
 
 -- one of them answers with a number and a place
 abbrev pub RowBefore : Call → ℕ → ℕ → Type 0
-RowBefore c = RowAnswers c.R c.format (list_check c.area c.list ≡ good) (BadElement (list_check c.area c.list)) (length c.buffer / c.R)
+RowBefore c = RowAnswers c.R c.format (list_check c.area c.list ≡ good) (ElementRefused (list_check c.area c.list)) (length c.buffer / c.R)
 
 -- the call's walk, under the items xs
 abbrev pub walk_of : Call → Items → Trace

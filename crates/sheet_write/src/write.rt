@@ -6,7 +6,8 @@ ghost use Rattle.sheet_write.specs.Writing.{writing, write_answer, write_buffer,
 
 use crate::formats::write_under;
 use list_elements::List;
-use sheet_walk::{Counts, Refusal, WIDEST_RECORD};
+use sheet_walk::width::Width;
+use sheet_walk::{Counts, Refusal};
 
 // Writes the list, its texts being in the area, under the format into records of this width in the buffer; or refuses, and
 // leaves the buffer as it was. Any width, any bytes, any list.
@@ -24,12 +25,6 @@ pub fn write(
     ensures records { answer_records result ≡ writing_records (writing width format.now list area.now (length buffer.old)) }
     ensures starred { answer_starred result ≡ writing_starred (values list) (writing width format.now list area.now (length buffer.old)) }
 {
-    // Two tests and not `width_right`: after that the compiler does not know that the width is small, and a field takes longer.
-    if width < 1 {
-        return Err(Refusal::RecordWidth);
-    }
-    if WIDEST_RECORD < width {
-        return Err(Refusal::RecordWidth);
-    }
+    let width = Width::try_from(width)?;
     write_under(width, format, list.listed(area), buffer)
 }

@@ -5,7 +5,6 @@ use crate::numbers::put;
 use format_check::check::check;
 use list_elements::List;
 use sheet_read::read::read;
-use sheet_walk::Counts;
 use sheet_write::write::write;
 
 // Writes a list; number (0 accepted), place, records and starred go into `answer`.
@@ -42,10 +41,7 @@ pub fn test_read(
     let given = read(width, format, wanted, area, records);
     let list = given.map_or(List::empty(), |sheet| sheet.list);
     put_list(&list, given_shapes, given_numbers);
-    let counts = given.map(|sheet| Counts {
-        records: sheet.records,
-        starred: 0,
-    });
+    let counts = given.map(|sheet| sheet.counts);
     let [number, place, records, starred] = answer_numbers(counts);
     put(&[number, place, records, starred, list.count], answer);
 }

@@ -1,7 +1,7 @@
 // A value as four numbers, by which C passes it.
 use list_elements::{Decimal, Text, Value};
 
-// The kinds as numbers. Any other number is an integer too.
+// The kinds as numbers: the C interface passes no enum. Any other number is an integer too.
 const INTEGER: usize = 0;
 
 const DECIMAL: usize = 1;

@@ -1,5 +1,5 @@
 // List texts and the program's sheets for C.
-use crate::answers::list_check_numbers;
+use crate::answers::check_numbers;
 use crate::lists::put_list;
 use crate::numbers::put;
 use list_elements::List;
@@ -18,7 +18,7 @@ pub fn test_list_text(
     let read = read_list(text);
     let list = read.unwrap_or(List::empty());
     put_list(&list, shapes, numbers);
-    let [number, place] = list_check_numbers(read);
+    let [number, place] = check_numbers(read);
     put(&[number, place, list.count], answer);
 }
 

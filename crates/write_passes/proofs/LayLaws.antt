@@ -12,8 +12,8 @@ use Rattle.sheet_walk.specs.Promises.{place_of, elements_put}
 use Rattle.format_words.specs.Words.{met_of}
 use Rattle.format_words.specs.declared.run.Run.{Run}
 use Rattle.sheet_walk.specs.Given.{what_of, given_sheet}
-use Rattle.sheet_walk.specs.Followed.{GoesBy, left_of, CoverIs, Covers}
-use Rattle.sheet_walk.specs.declared.Records.{Records}
+use Rattle.sheet_walk.specs.Followed.{GoesBy, left_of, CoverIs, CoversNext}
+use Rattle.sheet_walk.specs.declared.records.Records.{Records}
 use Rattle.sheet_walk.specs.declared.Refusal.{Refusal}
 use Rattle.sheet_walk.specs.declared.Cover.{Cover}
 use Rattle.sheet_walk.specs.declared.walk.Walk.{Walk}
@@ -80,7 +80,7 @@ module _ (R : ℕ) (area : List ℕ) (vs : List Value) (p : Placement) (rest : T
 -- ---- one turn
 
 module _ {l : Listed} {rs : Records} {whole : Trace} {first : List ℕ} {w : Walk} {r : Run} (g : GoesBy w r l.elements.now rs) {buffer : List ℕ} {starred : ℕ} (y : Laying l rs whole first (left_of w) buffer starred) where
-  module _ {v : Walk} {c : Cover} (m : Covers w v c) where
+  module _ {v : Walk} {c : Cover} (m : CoversNext w v c) where
     abbrev x : Met
     x = met_of r.chars.now c.word
 

@@ -19,7 +19,7 @@ use Rattle.format_items.specs.MetRanges.{MetWithin}
 use Rattle.format_words.specs.Words.{met_of}
 use Rattle.format_words.specs.declared.Word.{Word}
 use Rattle.format_words.specs.declared.Word.TheVariants as words
-use Rattle.list_elements.specs.Elements.{zero_value, value_of, kind_of, text_bytes}
+use Rattle.list_elements.specs.Elements.{zero_value, value_of, kind_of, text_bytes, kinds_of}
 use Rattle.list_elements.specs.Limits.{within_limits}
 use Rattle.list_elements.proofs.LimitLaws.{from_bits}
 use Rattle.list_elements.proofs.WithinLaws.{within_text}
@@ -29,7 +29,7 @@ use Rattle.list_elements.specs.declared.Value.TheVariants as value
 use Rattle.list_elements.specs.declared.listed.Listed.{Listed}
 use Rattle.sheet_walk.specs.Promises.{Suited}
 use Rattle.sheet_walk.specs.Steps.{What, suits}
-use Rattle.sheet_walk.specs.Given.{kinds_of, what_of, Covering, WordCovers}
+use Rattle.sheet_walk.specs.Given.{what_of, Covering, WordCovers}
 use Rattle.write_passes.specs.Placed.{field_characters, field_starred, field_too_large, value_at, characters_of, starred_of}
 use Rattle.write_passes.specs.Passes.{values_in, what_too_large}
 

@@ -1,14 +1,16 @@
--- What the passes of writing over the walk are given and answer.
+-- What the passes of writing over the walk are given and answer. (Nothing here need be believed: the public call's contract does
+-- not speak of it.)
 -- Assumes nothing.
 use Rattle.std.specs.Prelude.{◌≡◌, Bool, false, List, map, ℕ, Result, Ok, Err}
-use Rattle.list_elements.specs.Elements.{value_of}
+use Rattle.list_elements.specs.Elements.{value_of, kinds_of}
 use Rattle.list_elements.specs.declared.Value.{Value}
 use Rattle.list_elements.specs.declared.listed.Listed.{Listed}
 use Rattle.sheet_walk.specs.Steps.{What, element, literal}
-use Rattle.sheet_walk.specs.Walk.{Sheet, walk}
-use Rattle.sheet_walk.specs.Given.{kinds_of, WordCovers}
+use Rattle.sheet_walk.specs.Walk.{Trace, walk}
+use Rattle.sheet_walk.specs.Given.{given_sheet, WordCovers}
 use Rattle.sheet_walk.specs.declared.Cover.{Cover}
 use Rattle.sheet_walk.specs.declared.Refusal.{Refusal}
+use Rattle.write_passes.specs.declared.Sheet.{Sheet}
 use Rattle.write_passes.specs.Placed.{field_too_large, value_at, Judged, accepted, refused, judged}
 
 -- the values of a list
@@ -30,10 +32,17 @@ pub record SomeCovers (l : Listed) (c : Cover) : Type 0 where
   pub t : List ℕ
   pub covers : CoversIn t l c
 
--- a walk is accepted with the values vs
-pub record Accepts (vs : List Value) (h : Sheet) : Type 0 where
+-- the values of a sheet, and its walk
+abbrev pub values_of : Sheet → List Value
+values_of s = values_in s.list
+
+abbrev pub walk_of : Sheet → Trace
+walk_of s = walk (given_sheet s.run s.list.elements.now s.records)
+
+-- the walk is accepted with the values
+pub record Accepts (s : Sheet) : Type 0 where
   pub n : ℕ
-  pub accepts : judged vs (walk h) ≡ accepted n
+  pub accepts : judged (values_of s) (walk_of s) ≡ accepted n
 
 -- how a walk ends, as the code answers it
 abbrev pub ending_of : Judged → Result ℕ Refusal

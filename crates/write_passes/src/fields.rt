@@ -55,6 +55,7 @@ pub fn put(part: &mut [u8], cover: Cover, chars: &[u8], list: Listed<'_>) -> boo
             write_text(part, &list.area[t.start..][..t.len]);
             false
         }
+        // The kind suits the field, so no other pair is met.
         _ => unreachable!(),
     }
 }

@@ -6,13 +6,13 @@ use Rattle.field_written.proofs.decimal.put_decimal.Goals.{After-shown_digits-k}
 use lib.ListN.{length}
 
 -- the code's numbers show the field
-counted : (c : After-shown_digits-k) → Showing (length c.args.part.now) c.args.sign c.args.d c.args.m c.width.result c.shown_digits-k.result
+counted : (c : After-shown_digits-k) → Showing (length c.args.part.now) c.args.n.sign c.args.d c.args.n.magnitude c.width.result c.shown_digits-k.result
 counted c =
     decimal_shows
     record { columns = c.width.ensures.columns; needed = c.requires.needed; room = c.requires.room; shown = c.shown_digits-k.ensures }
 
 pub overflow_add-rest-2 : goal.overflow_add-rest-2
-overflow_add-rest-2 c = search (rules, decimal_rest c.args.sign c.args.d c.args.m c.width.ensures.columns c.requires.needed)
+overflow_add-rest-2 c = search (rules, decimal_rest c.args.n.sign c.args.d c.args.n.magnitude c.width.ensures.columns c.requires.needed)
 
 pub overflow_sub-need : goal.overflow_sub-need
 overflow_sub-need c = decimal_rest _ _ _ c.width.ensures.columns c.requires.needed

@@ -24,8 +24,8 @@ returns-in_err-v c =
     let p = err_from_is_err_and c.from_residual.result c.from_residual.ensures.1 in
     record { answer = rw (p.1, p.2) w.0; laid = w.1 _ }
 
-pub decimal_columns-need-requires-clause-magnitude : goal.decimal_columns-need-requires-clause-magnitude
-decimal_columns-need-requires-clause-magnitude c = (units_of _ _ _ (sym c.in_ok-v.ensures)).1
+pub invariant_of-shown : goal.invariant_of-shown
+invariant_of-shown c = record { small = (units_of _ _ _ (sym c.in_ok-v.ensures)).1 }
 
 pub returns-then-part-need : goal.returns-then-part-need
 returns-then-part-need c =

@@ -31,4 +31,4 @@ pub returns : goal.returns
 returns c =
     let p = c.read_number-m.result.next in
     let is : slice_get c.args.text.now p ≡ Some 46 = grind (arith, common_steps, gets) in
-    λ k rep. decimal_read (rw c.in_ok-width.ensures.ok_part at c.read_number-m.ensures) k (slice_get_within c.args.text.now p 46 is) (get_or_from_slice_get c.args.text.now p 46 0 is) (rw c.in_ok-places.ensures.ok_part at c.read_number-n.ensures) _ rep _ _ _ c.first_outside-o.ensures c.first_outside.ensures
+    λ k rep. decimal_read (rw c.in_ok-width.ensures.ok_part at c.read_number-m.ensures) k (slice_get_within c.args.text.now p 46 is) (get_or_from_slice_get c.args.text.now p 46 0 is) (rw c.in_ok-places.ensures.ok_part at c.read_number-n.ensures) _ rep _ _ _ c.look_at.ensures c.look_at-2.ensures

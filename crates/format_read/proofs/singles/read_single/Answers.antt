@@ -9,15 +9,15 @@ use Rattle.format_read.proofs.singles.read_single.Goals as goal
 
 pub returns-in-70 : goal.returns-in-70
 returns-in-70 c =
-    let k = number_at c.args.p.at c.args.m.value in
-    begun_read c.requires.number_found c.requires.at_in_bounds.0 (Use.width_f k) (λ l xs q. rw c.in-70.is) _ _ c.outside_of-outside.ensures c.read_f.result
-    (c.read_f.ensures k (times_at c.args.p.at c.args.m.value ∙ sym c.unwrap_or-repeat.ensures))
+    let k = number_at c.args.from c.args.m.value in
+    begun_read c.requires.number_found c.requires.at_in_bounds.0 (Use.width_f k) (λ l xs q. rw c.in-70.is) _ _ _ c.look_at_repeat.ensures c.read_f.result
+    (c.read_f.ensures k (times_at c.args.from c.args.m.value ∙ sym c.unwrap_or-repeat.ensures))
 
 pub returns-in-65 : goal.returns-in-65
 returns-in-65 c =
-    let k = number_at c.args.p.at c.args.m.value in
-    begun_read c.requires.number_found c.requires.at_in_bounds.0 (Use.width_a k) (λ l xs q. rw c.in-65.is) _ _ c.outside_of-outside.ensures (Ok c.read_a.result)
-    (c.read_a.ensures k (times_at c.args.p.at c.args.m.value ∙ sym c.unwrap_or-repeat.ensures))
+    let k = number_at c.args.from c.args.m.value in
+    begun_read c.requires.number_found c.requires.at_in_bounds.0 (Use.width_a k) (λ l xs q. rw c.in-65.is) _ _ _ c.look_at_repeat.ensures (Ok c.read_a.result)
+    (c.read_a.ensures k (times_at c.args.from c.args.m.value ∙ sym c.unwrap_or-repeat.ensures))
 
 pub returns-then-is_some : goal.returns-then-is_some
 returns-then-is_some c = T-after_digits c.requires.number_found c.requires.at_in_bounds.0 c.in-84.is (sym c.if-is_some.ensures)
@@ -31,10 +31,10 @@ returns-in_err-count-in-88 c =
 pub returns-in_ok-count-in-88 : goal.returns-in_ok-count-in-88
 returns-in_ok-count-in-88 c =
     let e = c.in_ok-count-in-88.ensures.ok_part in
-    X-read (rw e at c.requires.number_found) c.requires.at_in_bounds.0 c.in-88.is _ _ (rw e at c.outside_of-outside.ensures)
+    X-read (rw e at c.requires.number_found) c.requires.at_in_bounds.0 c.in-88.is _ _ (rw e at c.look_at_repeat.ensures)
 
 pub returns-in-47 : goal.returns-in-47
-returns-in-47 c = slash_read c.requires.number_found c.requires.at_in_bounds.0 c.in-47.is _ c.unwrap_or-repeat.ensures _ _ c.outside_of-outside.ensures
+returns-in-47 c = slash_read c.requires.number_found c.requires.at_in_bounds.0 c.in-47.is _ c.unwrap_or-repeat.ensures _ _ c.look_at_repeat.ensures
 
 pub returns-in_default : goal.returns-in_default
 returns-in_default c =
@@ -42,36 +42,36 @@ returns-in_default c =
 
 pub returns-in_err-width-in-73 : goal.returns-in_err-width-in-73
 returns-in_err-width-in-73 c =
-    let k = number_at c.args.p.at c.args.m.value in
+    let k = number_at c.args.from c.args.m.value in
     rw (passed_on c.from_residual.ensures.1)
-    (letter_missing c.requires.number_found c.requires.at_in_bounds.0 refl (ends-I k) (λ l xs q. rw c.in-73.is) c.in_err-width-in-73.ensures c.args.p.outside)
+    (letter_missing c.requires.number_found c.requires.at_in_bounds.0 refl (ends-I k) (λ l xs q. rw c.in-73.is) c.in_err-width-in-73.ensures c.args.outside.now)
 
 pub returns-in_ok-width-in-73 : goal.returns-in_ok-width-in-73
 returns-in_ok-width-in-73 c =
-    let k = number_at c.args.p.at c.args.m.value in
+    let k = number_at c.args.from c.args.m.value in
     rw c.single.ensures
-    (letter_read c.requires.number_found c.requires.at_in_bounds.0 refl (ends-I k) (λ l xs q. rw c.in-73.is) c.args.p.outside _ c.outside_of-outside.ensures c.in_ok-width-in-73.ensures _
-    (times_at c.args.p.at c.args.m.value ∙ sym c.unwrap_or-repeat.ensures))
+    (letter_read c.requires.number_found c.requires.at_in_bounds.0 refl (ends-I k) (λ l xs q. rw c.in-73.is) c.args.outside.now _ _ c.look_at_repeat.ensures c.in_ok-width-in-73.ensures _
+    (times_at c.args.from c.args.m.value ∙ sym c.unwrap_or-repeat.ensures))
 
 pub returns-in_err-width-in-76 : goal.returns-in_err-width-in-76
 returns-in_err-width-in-76 c =
-    let k = number_at c.args.p.at c.args.m.value in
+    let k = number_at c.args.from c.args.m.value in
     rw (passed_on c.from_residual-in_err-width-in-76.ensures.1)
-    (letter_missing c.requires.number_found c.requires.at_in_bounds.0 refl (ends-L k) (λ l xs q. rw c.in-76.is) c.in_err-width-in-76.ensures c.args.p.outside)
+    (letter_missing c.requires.number_found c.requires.at_in_bounds.0 refl (ends-L k) (λ l xs q. rw c.in-76.is) c.in_err-width-in-76.ensures c.args.outside.now)
 
 pub returns-in_ok-width-in-76 : goal.returns-in_ok-width-in-76
 returns-in_ok-width-in-76 c =
-    let k = number_at c.args.p.at c.args.m.value in
+    let k = number_at c.args.from c.args.m.value in
     rw c.single-in-76.ensures
-    (letter_read c.requires.number_found c.requires.at_in_bounds.0 refl (ends-L k) (λ l xs q. rw c.in-76.is) c.args.p.outside _ c.outside_of-outside.ensures c.in_ok-width-in-76.ensures _
-    (times_at c.args.p.at c.args.m.value ∙ sym c.unwrap_or-repeat.ensures))
+    (letter_read c.requires.number_found c.requires.at_in_bounds.0 refl (ends-L k) (λ l xs q. rw c.in-76.is) c.args.outside.now _ _ c.look_at_repeat.ensures c.in_ok-width-in-76.ensures _
+    (times_at c.args.from c.args.m.value ∙ sym c.unwrap_or-repeat.ensures))
 
 pub returns-in_err-column-in-84 : goal.returns-in_err-column-in-84
 returns-in_err-column-in-84 c =
     rw (passed_on c.from_residual-in_err-column-in-84.ensures.1)
-    (T-missing c.requires.number_found c.requires.at_in_bounds.0 c.in-84.is (sym c.if-is_some.ensures) c.in_err-column-in-84.ensures c.args.p.outside)
+    (T-missing c.requires.number_found c.requires.at_in_bounds.0 c.in-84.is (sym c.if-is_some.ensures) c.in_err-column-in-84.ensures c.args.outside.now)
 
 pub returns-in_ok-column-in-84 : goal.returns-in_ok-column-in-84
 returns-in_ok-column-in-84 c =
     rw c.single-in-84.ensures
-    (T-read c.requires.number_found c.requires.at_in_bounds.0 c.in-84.is (sym c.if-is_some.ensures) c.args.p.outside _ c.outside_of-outside.ensures c.in_ok-column-in-84.ensures)
+    (T-read c.requires.number_found c.requires.at_in_bounds.0 c.in-84.is (sym c.if-is_some.ensures) c.args.outside.now _ _ c.look_at_repeat.ensures c.in_ok-column-in-84.ensures)

@@ -1,12 +1,12 @@
-use Rattle.std.proofs.Common.{rules, ◌≡◌, refl, sym, ap, ◌∙◌, ◌+◌, ◌≤◌, length, List, ℕ, Fits, w64, arith}
+use Rattle.std.proofs.Common.{rules, ◌≡◌, refl, sym, ap, ◌∙◌, ◌+◌, ◌≤◌, length, List, ℕ, arith}
 use lib.ListN.{get_or}
 use Rattle.list_elements.specs.declared.Element.{Element}
 use Rattle.buffer.specs.Splice.{splice}
 use Rattle.list_elements.specs.Elements.{value_of}
 use Rattle.list_elements.specs.Contents.{bytes_of, value_from}
 use Rattle.list_elements.specs.declared.List as carried
-use Rattle.read_passes.specs.Passes.{content_found, Contents, Found}
-use Rattle.read_passes.proofs.GiveLaws.{zero_element, next_is, next_inside, giving_none, next_room, giving_more, giving_list, giving_texts}
+use Rattle.read_passes.specs.Passes.{content_found}
+use Rattle.read_passes.proofs.GiveLaws.{zero_element, next_is, giving_none, next_room, giving_more, giving_list, giving_texts}
 use Rattle.read_passes.proofs.giving.give.Goals as goal
 
 abbrev as_list : List Element → ℕ → carried.List

@@ -1,12 +1,9 @@
-use Rattle.std.proofs.Common.{◌≡◌, refl, sym, ap, ◌∙◌, ◌+◌, ◌-◌, length, List, ℕ, arith}
+use Rattle.std.proofs.Common.{refl, sym, ap, ◌∙◌, ℕ}
 use Rattle.std.proofs.lemmas.List.{take_rest}
 use Rattle.buffer.proofs.Splicing.{splice_nothing, splice_lent, length_lent}
-use Rattle.field_read.specs.TextRead.{text_read}
 use Rattle.field_read.proofs.Promises.{text_read_length}
 use Rattle.list_elements.specs.Elements.{text_bytes}
-use Rattle.list_elements.specs.Contents.{bytes_of, value_from}
 use Rattle.list_elements.specs.declared.Value.TheVariants as value
-use Rattle.read_passes.specs.Passes.{content_found}
 use Rattle.read_passes.proofs.GiveLaws.{other_value}
 use Rattle.read_passes.proofs.giving.give_value.Goals as goal
 

@@ -1,12 +1,10 @@
-use Rattle.std.proofs.Common.{rules, ◌≡◌, refl, sym, ap, ◌∙◌, ◌+◌, ◌-◌, ◌≤◌, ◌<◌, length, arith, []}
-use Rattle.std.specs.Prelude.{Err, Ok}
+use Rattle.std.proofs.Common.{rules, ◌≡◌, refl, sym, ap, ◌∙◌, ◌+◌, ◌-◌, ◌≤◌, length, arith, []}
+use Rattle.std.specs.Prelude.{Err}
 use lib.ListN.{length-set}
-use Rattle.sheet_walk.specs.Followed.{left_of, Covers}
 use Rattle.sheet_walk.proofs.Puts.{goes_on, fewer, next_covers, next_ends, next_refused}
-use Rattle.sheet_walk.specs.Given.{kinds_of}
+use Rattle.list_elements.specs.Elements.{kinds_of}
 use Rattle.read_passes.specs.Given.{gathered}
-use Rattle.read_passes.specs.Passes.{ending_of, FoundSoFar}
-use Rattle.read_passes.proofs.PassLaws.{joined_none, within, is_refused, is_accepted, literal_passed, not_found, known, field_found, none_accepted, same_accepted}
+use Rattle.read_passes.proofs.PassLaws.{joined_none, is_refused, is_accepted, literal_passed, not_found, field_found, none_accepted, same_accepted}
 use Rattle.read_passes.proofs.reading.read_pass.Goals as goal
 
 pub loop-cover-init : goal.loop-cover-init

@@ -1,4 +1,4 @@
-use Rattle.std.proofs.Common.{◌≡◌, refl, sym, ◌∙◌, ◌≤◌, length, arith}
+use Rattle.std.proofs.Common.{◌≡◌, refl, sym, ◌∙◌, ◌≤◌}
 use Rattle.std.specs.Prelude.{Ok}
 use Rattle.list_text.specs.ListText.{line_read}
 use Rattle.sheet_text.proofs.TextLaws.{read_ok, read_few, read_within, read_values}

@@ -1,4 +1,4 @@
-use Rattle.std.proofs.Common.{rules, ◌≡◌, sym, ◌*◌, ◌≤◌, length, arith}
+use Rattle.std.proofs.Common.{rules, sym, ◌*◌, ◌≤◌, length}
 use lib.Seq.{length-take-le}
 use Rattle.buffer.proofs.Splicing.{splice_front}
 use Rattle.sheet_write.proofs.WriteLaws.{reached, wrote_accepted}
@@ -6,8 +6,8 @@ use Rattle.sheet_write.proofs.records.write_records.Goals as goal
 use Rattle.sheet_write.proofs.records.write_records.Goals.{In_ok-reached}
 
 -- the records reached lie within the buffer
-filled : (c : In_ok-reached) → c.in_ok-reached.reached * c.args.records.width ≤ length c.args.buffer.now
-filled c = reached c.args.list c.args.run c.args.records c.check_pass.ensures c.in_ok-reached.was c.requires.roomy c.requires.room
+filled : (c : In_ok-reached) → c.in_ok-reached.reached * c.args.sheet.records.width ≤ length c.args.buffer.now
+filled c = reached c.args.sheet.list c.args.sheet.run c.args.sheet.records c.check_pass.ensures c.in_ok-reached.was c.requires
 
 pub overflow_mul-reached : goal.overflow_mul-reached
 overflow_mul-reached c = let h = filled (goal.at.overflow_mul-reached c).In_ok-reached in search rules
@@ -21,7 +21,7 @@ slice_bounds-fill-end-2 c = sym (length-take-le _ _ (filled (goal.at.slice_bound
 pub returns : goal.returns
 returns c =
     let f = filled (goal.at.returns c).In_ok-reached in
-    wrote_accepted c.args.list c.args.run c.args.records c.check_pass.ensures c.in_ok-reached.was
-    (splice_front c.args.buffer.now (c.in_ok-reached.reached * c.args.records.width) c.fill.new.self f c.fill.auto.self
+    wrote_accepted c.args.sheet.list c.args.sheet.run c.args.sheet.records c.check_pass.ensures c.in_ok-reached.was
+    (splice_front c.args.buffer.now (c.in_ok-reached.reached * c.args.sheet.records.width) c.fill.new.self f c.fill.auto.self
     (rw (length-take-le _ _ f) at (c.fill.ensures.after (λ y e. e))))
     c.lay_pass-starred.ensures.stars c.lay_pass-starred.ensures.bytes

@@ -1,21 +1,21 @@
-use Rattle.std.proofs.Common.{◌≡◌, ◌<◌, arith}
+use Rattle.std.proofs.Common.{rules, ◌≡◌, ap, ◌∙◌}
+use Rattle.std.specs.Prelude.{Err}
 use Rattle.list_elements.specs.Limits.{list_check}
-use Rattle.sheet_walk.proofs.WidthLaws.{width_none, width_over}
+use Rattle.sheet_walk.specs.declared.Refusal.TheVariants.{RecordWidth}
+use Rattle.sheet_walk.proofs.WidthLaws.{width_is, width_refused}
 use Rattle.sheet_write.proofs.WriteLaws.{width_refuses}
 use Rattle.sheet_write.proofs.Whole.{as_carried, promised}
 use Rattle.sheet_write.proofs.write.write.Goals as goal
 
-pub returns-then-width-lt1 : goal.returns-then-width-lt1
-returns-then-width-lt1 c =
-    let p = promised (width_refuses c.args.width c.args.format.now (list_check c.args.area.now c.args.list) (width_none c.args.width (omega arith))) in
-    record { answers = p.answers; bytes = p.bytes; number = p.number; place = p.place; records = p.records; starred = p.starred }
-
-pub returns-then-width-gt-WIDEST_RECORD : goal.returns-then-width-gt-WIDEST_RECORD
-returns-then-width-gt-WIDEST_RECORD c =
-    let p = promised (width_refuses c.args.width c.args.format.now (list_check c.args.area.now c.args.list) (width_over c.args.width (omega arith) (omega arith))) in
-    record { answers = p.answers; bytes = p.bytes; number = p.number; place = p.place; records = p.records; starred = p.starred }
+pub returns-in_err-width : goal.returns-in_err-width
+returns-in_err-width c =
+    let n = width_refused c.args.width c.try_from.ensures c.in_err-width.was in
+    let p = promised (width_refuses c.args.width c.args.format.now (list_check c.args.area.now c.args.list) n.1) in
+    let r : c.from_residual.result ≡ Err RecordWidth = (let q : c.from_residual.result ≡ Err c.in_err-width.field-0.0 = search rules in q ∙ ap (λ x. Err x) n.0) in
+    rw r (record { answers = p.answers; bytes = p.bytes; number = p.number; place = p.place; records = p.records; starred = p.starred })
 
 pub returns : goal.returns
 returns c =
-    let p = promised (as_carried c.args.format.now c.args.area.now c.args.list c.listed.result c.listed.ensures c.write_under.ensures) in
+    let u = rw (width_is c.args.width c.try_from.ensures c.in_ok-width.was) at c.write_under.ensures in
+    let p = promised (as_carried c.args.format.now c.args.area.now c.args.list c.listed.result c.listed.ensures u) in
     record { answers = p.answers; bytes = p.bytes; number = p.number; place = p.place; records = p.records; starred = p.starred }

@@ -2,12 +2,18 @@ use Rattle.std.proofs.Common.{rules, ◌≡◌, refl, sym, ◌∙◌, ◌≤◌,
 use Rattle.std.specs.Prelude.{None}
 use Rattle.std.proofs.lemmas.List.{length-map}
 use Rattle.buffer.proofs.Splicing.{splice_lent}
-use Rattle.sheet_walk.specs.Followed.{Covers}
-use Rattle.sheet_walk.specs.Given.{given_sheet, kinds_of}
+use Rattle.sheet_walk.specs.Followed.{CoversNext}
+use Rattle.list_elements.specs.Elements.{kinds_of}
+use Rattle.sheet_walk.specs.Given.{given_sheet}
 use Rattle.sheet_walk.proofs.Puts.{goes_on, fewer, cover_in, next_covers, next_nothing, next_refused}
-use Rattle.write_passes.specs.Passes.{values_in}
+use Rattle.write_passes.specs.Passes.{values_of}
 use Rattle.write_passes.proofs.LayLaws.{few_starred, lay_small, lay_next, lay_done, lay_stopped}
 use Rattle.write_passes.proofs.laying.lay_pass.Goals as goal
+
+-- (The check finds this alone. It stands here so that the wrong version `starred_made_up` is refused by a fact.)
+pub loop-cover-init : goal.loop-cover-init
+loop-cover-init c =
+    rw c.new-walk.ensures.left (c.new-walk.ensures.goes_by, refl, record { n = c.requires.accepts.n; accepts = c.requires.accepts.accepts; bytes = refl; stars = omega arith })
 
 pub put-requires-clause-small : goal.put-requires-clause-small
 put-requires-clause-small c = lay_small c.loop-cover.invariant.0 c.loop-cover.invariant.2 (next_covers c.loop-cover.walk c.next.new.self c.next.ensures c.in-Ok-Some.is c.in-Ok-Some.field-0-is)
@@ -15,12 +21,12 @@ put-requires-clause-small c = lay_small c.loop-cover.invariant.0 c.loop-cover.in
 pub overflow_add-starred : goal.overflow_add-starred
 overflow_add-starred c =
     let i = c.loop-cover.invariant in
-    let m : Covers c.loop-cover.walk c.next.new.self c.in-Ok-Some.cover = next_covers c.loop-cover.walk c.next.new.self c.next.ensures c.in-Ok-Some.is c.in-Ok-Some.field-0-is in
+    let m : CoversNext c.loop-cover.walk c.next.new.self c.in-Ok-Some.cover = next_covers c.loop-cover.walk c.next.new.self c.next.ensures c.in-Ok-Some.is c.in-Ok-Some.field-0-is in
     let y = lay_next i.0 i.2 m refl (sym c.if-put.true ∙ c.put.ensures.stars) refl in
-    let f = few_starred (given_sheet c.args.run c.args.list.elements.now c.args.records) (values_in c.args.list) c.requires.accepts.n c.requires.accepts.accepts in
+    let f = few_starred (given_sheet c.args.sheet.run c.args.sheet.list.elements.now c.args.sheet.records) (values_of c.args.sheet) c.requires.accepts.n c.requires.accepts.accepts in
     let k = y.stars in
-    let g : length (kinds_of c.args.list.elements.now) ≡ length c.args.list.elements.now = length-map _ _ in
-    let h : c.loop-cover.starred + 1 ≤ length c.args.list.elements.now = omega arith in
+    let g : length (kinds_of c.args.sheet.list.elements.now) ≡ length c.args.sheet.list.elements.now = length-map _ _ in
+    let h : c.loop-cover.starred + 1 ≤ length c.args.sheet.list.elements.now = omega arith in
     search rules
 
 pub loop-cover-smaller-then-put : goal.loop-cover-smaller-then-put

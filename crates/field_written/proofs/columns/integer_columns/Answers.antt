@@ -1,5 +1,0 @@
-use Rattle.field_written.proofs.Cases.{integer_need}
-use Rattle.field_written.proofs.columns.integer_columns.Goals as goal
-
-pub returns-clause-count : goal.returns-clause-count
-returns-clause-count c = integer_need _ c.args.m c.width.ensures.columns c.digit_count.ensures.count
