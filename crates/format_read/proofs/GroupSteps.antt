@@ -140,12 +140,13 @@ module _ {l : ℕ} {start p p' : Position} {a b d : List Entry} {t u v : List �
     within : p'.at < length start.text.now
     within = rw same_both at h
 
-    pub so_far_closed : get_or p'.text.now p'.at 0 ≡ 41 → Took l (wanted start.at) close start a t p₁ d v
-    unfolding step step_within
-    so_far_closed c =
+    -- from the start up to the byte that moves the position on, whatever state that byte leads to
+    both_taken : (to : ℕ → Items → Open → State)
+        → ((xs : Items) (q : Open) → read_at start.text.now p'.at (State.within Mode.after l (join xs both) q) ≡ read_at start.text.now (p'.at + 1) (to l (join xs both) q)) → Took l (wanted start.at) to start a t p₁ d v
+    both_taken to r =
         record {
           items = both;
-          runs = λ xs q. rw m.at_is (read_both xs q ∙ read_step start.text.now p'.at _ (close l (join xs both) q) within (rw (byte_is 41 c)) (close_live l (join xs both) q));
+          runs = λ xs q. rw m.at_is (read_both xs q ∙ r xs q);
           holds = rw (m.entries_are, m.chars_are) held_both;
           entries_kept = kept_entries;
           chars_kept = kept_chars;
@@ -156,18 +157,25 @@ module _ {l : ℕ} {start p p' : Position} {a b d : List Entry} {t u v : List �
           more_chars = omega (arith, f.more_chars, k.more_chars, m.chars_are);
         }
 
+    pub so_far_closed : get_or p'.text.now p'.at 0 ≡ 41 → Took l (wanted start.at) close start a t p₁ d v
+    unfolding step step_within
+    so_far_closed c = both_taken close (λ xs q. read_step start.text.now p'.at _ (close l (join xs both) q) within (rw (byte_is 41 c)) (close_live l (join xs both) q))
+
     pub so_far_more : get_or p'.text.now p'.at 0 ≡ 44 → SoFar l start a t p₁ d v
     unfolding step step_within
     so_far_more c =
+        let n = both_taken (State.within (wanted (p'.at + 1)))
+        (λ xs q. read_step start.text.now p'.at _ (State.within (wanted (p'.at + 1)) l (join xs both) q) within (rw (byte_is 44 c)) (λ x y. refl)) in
         record {
-          items = both;
-          runs = λ xs q. rw m.at_is (read_both xs q ∙ read_step start.text.now p'.at _ (State.within (wanted (p'.at + 1)) l (join xs both) q) within (rw (byte_is 44 c)) (λ x y. refl));
-          holds = rw (m.entries_are, m.chars_are) held_both;
-          entries_kept = kept_entries;
-          chars_kept = kept_chars;
-          outside_is = m.outside_is ∙ outside_both;
-          same_text = m.same_text ∙ same_both;
-          more = omega (arith, f.more, k.more, m.at_is);
-          more_entries = omega (arith, f.more_entries, k.more_entries, m.entries_are);
-          more_chars = omega (arith, f.more_chars, k.more_chars, m.chars_are);
+          items = n.items;
+          runs = λ xs q.
+              subst (λ (j : ℕ). read_at start.text.now start.at (State.within (wanted start.at) l xs q) ≡ read_at start.text.now p₁.at (State.within (wanted j) l (join xs n.items) q)) (sym m.at_is) (n.runs xs q);
+          holds = n.holds;
+          entries_kept = n.entries_kept;
+          chars_kept = n.chars_kept;
+          outside_is = n.outside_is;
+          same_text = n.same_text;
+          more = omega (arith, n.more);
+          more_entries = n.more_entries;
+          more_chars = n.more_chars;
         }
