@@ -39,7 +39,7 @@ pub fn bench_read(
     width: usize,
     format: &[u8],
     shapes: &[usize],
-    expected: &[i64; 64],
+    expected: &[i64; List::MOST],
     count: usize,
     area: &mut [u8],
     records: &[u8],

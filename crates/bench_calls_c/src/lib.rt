@@ -2,6 +2,7 @@
 #![tactic(auto)]
 
 use bench_calls::calls;
+use list_elements::List;
 
 // `bench_calls::calls::bench_write`.
 #[unsafe(no_mangle)]
@@ -28,7 +29,7 @@ pub extern "C" fn bench_read(
     width: usize,
     format: &[u8],
     shapes: &[usize],
-    expected: &[i64; 64],
+    expected: &[i64; List::MOST],
     count: usize,
     area: &mut [u8],
     records: &[u8],

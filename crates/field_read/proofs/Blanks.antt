@@ -9,6 +9,7 @@ use borrow.Author.Tests.{ne_eqb, eqb-true, eqb-false}
 use lib.Dec.{eqb}
 use lib.ListN.{length, take, drop, get_or, replicate}
 use lib.Seq.{take-length}
+use Rattle.buffer.specs.Characters.{blank}
 use Rattle.number.specs.Digits.{Digits}
 use Rattle.field_read.specs.Read.{unblanked}
 use Rattle.field_read.specs.LogicalRead.{after_blanks}
@@ -16,13 +17,13 @@ use Rattle.field_read.specs.LogicalRead.{after_blanks}
 pub unblanked_append : (xs ys : List ℕ) → unblanked (xs ++ ys) ≡ unblanked xs ++ unblanked ys
 unfolding unblanked
 unblanked_append [] ys = refl
-unblanked_append (x ∷ xs) ys = rw (unblanked_append xs ys) (go (eqb x 32))
+unblanked_append (x ∷ xs) ys = rw (unblanked_append xs ys) (go (eqb x blank))
   where
     go : (b : Bool) → cond b (unblanked xs ++ unblanked ys) (x ∷ (unblanked xs ++ unblanked ys)) ≡ cond b (unblanked xs) (x ∷ unblanked xs) ++ unblanked ys
     go true = refl
     go false = refl
 
-pub unblanked_blanks : (k : ℕ) → unblanked (replicate k 32) ≡ []
+pub unblanked_blanks : (k : ℕ) → unblanked (replicate k blank) ≡ []
 unfolding unblanked
 unblanked_blanks zero = refl
 unblanked_blanks (suc k) = unblanked_blanks k
@@ -30,7 +31,7 @@ unblanked_blanks (suc k) = unblanked_blanks k
 pub unblanked_digits : (ds : List ℕ) → Digits ds → unblanked ds ≡ ds
 unfolding unblanked
 unblanked_digits [] h = refl
-unblanked_digits (x ∷ xs) h = simp (ne_eqb x 32 (λ e. omega arith), unblanked_digits xs h.2)
+unblanked_digits (x ∷ xs) h = simp (ne_eqb x blank (λ e. omega arith), unblanked_digits xs h.2)
 
 -- ---- the first byte, and what stands after it
 
@@ -54,13 +55,13 @@ pub test_some : (s : List ℕ) → false ≡ eqb (length s) 0 → 1 ≤ length s
 test_some [] e = absurd (eqb-false 0 0 (sym e) refl)
 test_some (x ∷ s) e = omega arith
 
-pub at_blank : (t : List ℕ) → unblanked (32 ∷ t) ≡ unblanked t
+pub at_blank : (t : List ℕ) → unblanked (blank ∷ t) ≡ unblanked t
 unfolding unblanked
 at_blank t = refl
 
-pub at_other : (x : ℕ) (t : List ℕ) → (x ≡ 32 → ⊥) → unblanked (x ∷ t) ≡ x ∷ unblanked t
+pub at_other : (x : ℕ) (t : List ℕ) → (x ≡ blank → ⊥) → unblanked (x ∷ t) ≡ x ∷ unblanked t
 unfolding unblanked
-at_other x t n = simp (ne_eqb x 32 n)
+at_other x t n = simp (ne_eqb x blank n)
 
 pub unblanked_none : unblanked [] ≡ []
 unfolding unblanked
@@ -68,23 +69,23 @@ unblanked_none = refl
 
 -- ---- the same of `after_blanks`
 
-pub after_blank : (t : List ℕ) → after_blanks (32 ∷ t) ≡ after_blanks t
+pub after_blank : (t : List ℕ) → after_blanks (blank ∷ t) ≡ after_blanks t
 unfolding after_blanks
 after_blank t = refl
 
-pub after_other : (x : ℕ) (t : List ℕ) → (x ≡ 32 → ⊥) → after_blanks (x ∷ t) ≡ x ∷ t
+pub after_other : (x : ℕ) (t : List ℕ) → (x ≡ blank → ⊥) → after_blanks (x ∷ t) ≡ x ∷ t
 unfolding after_blanks
-after_other x t n = simp (ne_eqb x 32 n)
+after_other x t n = simp (ne_eqb x blank n)
 
 pub after_none : after_blanks [] ≡ []
 unfolding after_blanks
 after_none = refl
 
 -- by the first byte, as the code has it
-pub blank_front : (s : List ℕ) → 1 ≤ length s → get_or s 0 0 ≡ 32 → after_blanks s ≡ after_blanks (take (length s - 1) (drop 1 s))
+pub blank_front : (s : List ℕ) → 1 ≤ length s → get_or s 0 0 ≡ blank → after_blanks s ≡ after_blanks (take (length s - 1) (drop 1 s))
 blank_front s h e = ap after_blanks (first_rest s h e) ∙ after_blank (take (length s - 1) (drop 1 s))
 
-pub other_front : (s : List ℕ) → 1 ≤ length s → (get_or s 0 0 ≡ 32 → ⊥) → after_blanks s ≡ s
+pub other_front : (s : List ℕ) → 1 ≤ length s → (get_or s 0 0 ≡ blank → ⊥) → after_blanks s ≡ s
 other_front s h n =
     let e = first_rest s h refl in
     ap after_blanks e ∙ after_other (get_or s 0 0) (take (length s - 1) (drop 1 s)) n ∙ sym e
@@ -97,18 +98,18 @@ nothing_front (x ∷ s) h = absurd (omega arith)
 pub unblanked_after : (s : List ℕ) → unblanked s ≡ unblanked (after_blanks s)
 unfolding unblanked after_blanks
 unblanked_after [] = refl
-unblanked_after (x ∷ xs) = go (eqb x 32) refl (unblanked_after xs)
+unblanked_after (x ∷ xs) = go (eqb x blank) refl (unblanked_after xs)
   where
-    go : (b : Bool) → eqb x 32 ≡ b → unblanked xs ≡ unblanked (after_blanks xs) → cond b (unblanked xs) (x ∷ unblanked xs) ≡ unblanked (cond b (after_blanks xs) (x ∷ xs))
+    go : (b : Bool) → eqb x blank ≡ b → unblanked xs ≡ unblanked (after_blanks xs) → cond b (unblanked xs) (x ∷ unblanked xs) ≡ unblanked (cond b (after_blanks xs) (x ∷ xs))
     go true e r = r
     go false e r = simp e
 
 -- and no blank stands in front of that
-pub after_first : (s : List ℕ) {x : ℕ} {t : List ℕ} → after_blanks s ≡ x ∷ t → x ≡ 32 → ⊥
+pub after_first : (s : List ℕ) {x : ℕ} {t : List ℕ} → after_blanks s ≡ x ∷ t → x ≡ blank → ⊥
 unfolding after_blanks
 after_first [] e z = let k : ◌≡◌ {A = ℕ} 0 1 = cc in absurd (omega arith)
-after_first (y ∷ ys) {x} {t} e z = go (λ f. after_first ys f z) (eqb y 32) refl e
+after_first (y ∷ ys) {x} {t} e z = go (λ f. after_first ys f z) (eqb y blank) refl e
   where
-    go : (after_blanks ys ≡ x ∷ t → ⊥) → (b : Bool) → eqb y 32 ≡ b → cond b (after_blanks ys) (y ∷ ys) ≡ x ∷ t → ⊥
+    go : (after_blanks ys ≡ x ∷ t → ⊥) → (b : Bool) → eqb y blank ≡ b → cond b (after_blanks ys) (y ∷ ys) ≡ x ∷ t → ⊥
     go r true q f = r f
-    go r false q f = eqb-false y 32 q (let k : y ≡ x = cc in k ∙ z)
+    go r false q f = eqb-false y blank q (let k : y ≡ x = cc in k ∙ z)

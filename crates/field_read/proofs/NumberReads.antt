@@ -12,7 +12,7 @@ use lib.IntN.{ℤ, pos}
 use Rattle.buffer.specs.Characters.{plus_sign, minus_sign, decimal_point}
 use Rattle.number.specs.Limits.{largest, most_places}
 use Rattle.number.specs.Digits.{Digits, all_digits, value}
-use Rattle.number.proofs.DigitLaws.{digits_append, all_digits_is}
+use Rattle.number.proofs.DigitLaws.{digits_append, all_digits_is, digits_split}
 use Rattle.field_written.specs.Numeral.{Numeric, I, F, places, sign_bytes, signed}
 use Rattle.field_written.specs.declared.Sign.{Sign}
 use Rattle.field_written.specs.declared.Sign.TheVariants.{None as NoSign, Plus, Minus}
@@ -55,12 +55,6 @@ number_made s p x y u q e =
     go true ea false eb c ec d ed f = refused_not_number f
     go true ea true eb false ec d ed f = refused_not_number f
     go true ea true eb true ec false ed f = refused_not_number f
-
-digits_split : (x y : List ℕ) → Digits (x ++ y) → Digits x × Digits y
-digits_split [] y h = (tt, h)
-digits_split (c ∷ x) y h =
-    let k = digits_split x y h.2 in
-    ((h.0, h.1, k.0), k.1)
 
 sign_in : (t : List ℕ) → t ≡ sign_bytes (sign_of t) ++ after_sign t
 sign_in [] = refl

@@ -19,7 +19,7 @@ use Rattle.buffer.proofs.Splicing.{splice_same, length_part}
 use Rattle.number.specs.Limits.{largest}
 use Rattle.number.specs.Digits.{Digits, value, digits_of}
 use Rattle.number.specs.Rounding.{Nearest, rounded_units, too_large, too_large_error}
-use Rattle.number.proofs.RoundingLaws.{rounded_is}
+use Rattle.number.proofs.RoundingLaws.{rounded_is, rounded_right}
 use Rattle.number.proofs.DigitLaws.{value_none, length_digits, digits_are, value_digits, value_below, value_append, no_zero, digits_cut, digits_unique, digits_exact}
 use Rattle.field_written.specs.Numeral.{Numeric, I, F, places, point, sign_bytes, signed, layout, Setting, plain, Permitted, Numeral, characters, stands_for}
 use Rattle.field_written.specs.declared.Sign.{Sign}
@@ -309,9 +309,6 @@ case_of g w d u s = go (too_large u s d) (starred g (F d) w (rounded_units u s d
     go false true p q = narrow_case p q (rw (p, q))
     go false false p q = wide_case p q (rw (p, q))
 
-nearest_units : (u : ℤ) (s d : ℕ) → Nearest u s d (rounded_units u s d)
-nearest_units u s d = (rounded_is u s d (rounded_units u s d)).1 refl
-
 large_units : (u : ℤ) (s d : ℕ) → too_large u s d ≡ true → largest < nat_abs (rounded_units u s d)
 unfolding too_large
 large_units u s d e = ltb-true largest (nat_abs (rounded_units u s d)) e
@@ -336,7 +333,7 @@ pub decimal_refused_when : DecimalRefusedWhen
 decimal_refused_when g w d u s = go (case_of g w d u s)
   where
     accepted : too_large u s d ≡ false → ((r : ℤ) → Nearest u s d r → nat_abs r ≤ largest → ⊥) → ⊥
-    accepted p k = k (rounded_units u s d) (nearest_units u s d) (small_units u s d p)
+    accepted p k = k (rounded_units u s d) (rounded_right u s d) (small_units u s d p)
 
     go : Case g w d u s → (put_refusal (put_decimal g w d u s) ≡ 11) ↔ ((r : ℤ) → Nearest u s d r → nat_abs r ≤ largest → ⊥)
     go (large p e) = (

@@ -6,6 +6,7 @@ ghost use Rattle.format_check.specs.Checked.{answer, answer_number, answer_place
 
 use format_items::{FormatRefusal, LONGEST_FORMAT};
 use format_load::items::check_items;
+use format_load::{MEDIUM_FORMAT, SHORT_FORMAT};
 use format_words::Entry;
 
 // Rows 3 to 5, for a text of at most N bytes: with room for the items of one so long. Not inlined, so that the stack of a call
@@ -29,9 +30,9 @@ pub fn check(format: &[u8]) -> Result<(), FormatRefusal>
     ensures place { answer_place result ≡ outcome_place (outcome format.now) }
 {
     match format.len() {
-        0..=64 => check_within::<64>(format),
-        65..=256 => check_within::<256>(format),
-        257..=LONGEST_FORMAT => check_within::<LONGEST_FORMAT>(format),
+        ..=SHORT_FORMAT => check_within::<SHORT_FORMAT>(format),
+        ..=MEDIUM_FORMAT => check_within::<MEDIUM_FORMAT>(format),
+        ..=LONGEST_FORMAT => check_within::<LONGEST_FORMAT>(format),
         _ => Err(FormatRefusal::Length),
     }
 }

@@ -7,8 +7,8 @@ use native.Mathlib.Nat.{add-sub_cancel}
 use native.Mathlib.Omega.{arith}
 use borrow.Author.Tests.{ne_eqb}
 use lib.ListN.{get_or}
-use Rattle.buffer.specs.Characters.{decimal_point, letter_i, letter_f, letter_l, letter_a, letter_x, letter_t}
-use Rattle.format_grammar.specs.Characters.{opening_bracket, slash_sign, closing_bracket, comma}
+use Rattle.buffer.specs.Characters.{decimal_point, letter_i, letter_f, letter_l, letter_a, letter_t}
+use Rattle.format_grammar.specs.Characters.{opening_bracket, slash_sign, closing_bracket, comma, letter_x}
 use Rattle.format_items.specs.Items.{Number, Repeat, Field, Items, join}
 use Rattle.format_grammar.specs.Grammar.{RepeatAt, FieldAt, Nonterminal, Derives, Format}
 use Rattle.format_grammar.specs.Reading.{Use, Mode, Open, State, Reading, step, step_within, wanted, begun, close, read_at, reading}

@@ -2,7 +2,7 @@
 -- Assumes nothing.
 use mathlib.Core.Path.{◌≡◌, refl, sym}
 use mathlib.Core.Logic.{⊎_elim}
-use mathlib.Core.Bool.{Bool, true, false, ◌&&◌, cond, false≢true}
+use mathlib.Core.Bool.{Bool, true, false, cond, false≢true}
 use mathlib.Core.List.{List, [], ◌∷◌, ◌++◌}
 use Prim.Native.Nat.{ℕ, ◌+◌, ◌<◌, ◌≤◌}
 use native.Mathlib.Omega.{arith}
@@ -10,7 +10,7 @@ use borrow.Author.Tests.{eq-eqb, leb-true}
 use lib.Dec.{leb, eqb}
 use lib.ListN.{length, get_or}
 use Rattle.format_grammar.specs.Grammar.{At, Mark, doubled, LiteralAt}
-use Rattle.buffer.specs.Characters.{Printable}
+use Rattle.buffer.specs.Characters.{Printable, is_printable}
 use Rattle.format_grammar.specs.Reading.{is_empty}
 use Rattle.format_grammar.proofs.PartLaws.{part_more}
 use Rattle.buffer.proofs.Tests.{and_true}
@@ -45,7 +45,7 @@ printable_more (x ∷ cs) c h lo hi = (h.0, h.1, printable_more cs c h.2 lo hi)
 -- ---- the literal up to an offset
 
 -- one more character
-pub plain_at : {s : List ℕ} {a m at : ℕ} {cs : List ℕ} → InsideAt s a m cs at → at < length s → eqb (get_or s at 0) m ≡ false → (leb 32 (get_or s at 0) && leb (get_or s at 0) 126) ≡ true
+pub plain_at : {s : List ℕ} {a m at : ℕ} {cs : List ℕ} → InsideAt s a m cs at → at < length s → eqb (get_or s at 0) m ≡ false → is_printable (get_or s at 0) ≡ true
     → InsideAt s a m (cs ++ get_or s at 0 ∷ []) (at + 1)
 plain_at {s} {a} {m} {at} {cs} k h e f =
     let b : ℕ = get_or s at 0 in

@@ -2,43 +2,22 @@
 -- Assumes nothing.
 use mathlib.Core.Path.{sym, subst}
 use mathlib.Core.List.{List, [], ◌∷◌, ◌++◌}
-use Prim.Native.Nat.{ℕ, zero, suc, ◌*◌, ◌<◌, ◌≤◌}
+use Prim.Native.Nat.{ℕ, ◌*◌, ◌<◌, ◌≤◌}
 use native.Mathlib.Nat.{mul-le-mul}
 use native.Mathlib.Omega.{arith}
 use lib.ListN.{length, replicate, length-append, length-replicate}
-use Rattle.format_items.specs.Items.{Number, times, Field, Items}
+use Rattle.format_items.specs.Items.{Number, times, Items}
 use Rattle.format_grammar.specs.Grammar.{Nonterminal, Derives}
 use Rattle.format_items.specs.Ranges.{Ranged, range_n, repeat_numbers, field_numbers, numbers, AllWithin, Within}
 use Rattle.format_items.specs.Met.{Met, field_values, repeat, met}
 use Rattle.format_grammar.specs.Promises.{MetInRange}
-use Rattle.format_items.specs.MetRanges.{MetWithin, AllMetWithin}
+use Rattle.format_items.specs.MetRanges.{AllMetWithin}
 use Rattle.format_items.proofs.ItemLaws.{numbers_join}
 use Rattle.format_items.proofs.RangeLaws.{within_left, within_right, times_some}
 use Rattle.format_items.proofs.MetLaws.{length_repeat, met_join}
-
--- ---- lists of items met
-
-all_append : (ks ms : List Met) → AllMetWithin ks → AllMetWithin ms → AllMetWithin (ks ++ ms)
-all_append [] ms g h = h
-all_append (k ∷ ks) ms g h = (g.0, all_append ks ms g.1 h)
-
-all_replicate : (n : ℕ) (k : Met) → MetWithin k → AllMetWithin (replicate n k)
-all_replicate zero k h = tt
-all_replicate (suc n) k h = (h, all_replicate n k h)
-
-all_repeat : (n : ℕ) (ks : List Met) → AllMetWithin ks → AllMetWithin (repeat n ks)
-unfolding repeat
-all_repeat zero ks h = tt
-all_repeat (suc n) ks h = all_append ks (repeat n ks) h (all_repeat n ks h)
+use Rattle.format_items.proofs.MetWithinLaws.{all_append, all_replicate, all_repeat, field_within}
 
 -- ---- each item
-
-field_within : (k : Field Number) → AllWithin (field_numbers k) → MetWithin (Met.field (field_values k))
-field_within (Field.I w) h = h.0
-field_within (Field.F w d) h = (h.0, h.1.0)
-field_within (Field.L w) h = h.0
-field_within Field.A h = tt
-field_within (Field.Aw w) h = h.0
 
 first_within : (n : Number) (ns : List Ranged) → AllWithin (range_n n ∷ ns) → Within (range_n n)
 first_within n ns h = h.0

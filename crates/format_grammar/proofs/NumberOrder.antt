@@ -7,9 +7,9 @@ use mathlib.Core.List.{List, [], ◌∷◌, ◌++◌, append-nil}
 use Prim.Native.Nat.{ℕ, ◌+◌}
 use borrow.Author.Tests.{eqb-false}
 use lib.Dec.{eqb}
-use Rattle.buffer.specs.Characters.{decimal_point, letter_a, letter_f, letter_i, letter_l, letter_t, letter_x}
+use Rattle.buffer.specs.Characters.{decimal_point, letter_a, letter_f, letter_i, letter_l, letter_t}
 use Rattle.number.specs.Digits.{is_digit}
-use Rattle.format_grammar.specs.Characters.{quotation_mark, apostrophe, opening_bracket, closing_bracket, comma, slash_sign}
+use Rattle.format_grammar.specs.Characters.{quotation_mark, apostrophe, opening_bracket, closing_bracket, comma, slash_sign, letter_x}
 use Rattle.format_items.specs.Items.{Number, Repeat, Field, Items}
 use Rattle.format_grammar.specs.Grammar.{At, NumberAt, RepeatAt, FieldAt, Nonterminal, Derives}
 use Rattle.format_items.specs.Ranges.{Ranged, ranged, repeat_numbers, field_numbers, numbers}

@@ -7,7 +7,7 @@ use native.Mathlib.Omega.{arith}
 use lib.ListN.{length, get_or, drop, length-drop, length-take}
 use lib.Seq.{take-suc, get_or-drop}
 use Rattle.number.specs.Digits.{Digits, value}
-use Rattle.number.proofs.DigitLaws.{value_append, digits_append}
+use Rattle.number.proofs.DigitLaws.{value_append, digits_append, digits_split}
 use Rattle.format_grammar.specs.Grammar.{part}
 use Rattle.format_grammar.proofs.ReadLaws.{drop_one}
 
@@ -47,10 +47,6 @@ first s a b c cs h e =
 
 -- ---- digits
 
-split_digits : (xs ys : List ℕ) → Digits (xs ++ ys) → Digits xs × Digits ys
-split_digits [] ys h = (tt, h)
-split_digits (x ∷ xs) ys h = let k = split_digits xs ys h.2 in ((h.0, h.1, k.0), k.1)
-
 value_snoc : (xs : List ℕ) (b : ℕ) → value (xs ++ b ∷ []) ≡ value xs * 10 + (b - 48)
 unfolding value
 value_snoc xs b = rw (value_append xs (b ∷ [])) (omega arith)
@@ -64,5 +60,5 @@ digits_more s a b h g d lo hi = rw (part_more s a b h g) (digits_append (part s 
 -- the last digit and those before it
 pub digits_less : (s : List ℕ) (a b : ℕ) → a ≤ b → b < length s → Digits (part s a (b + 1)) → Digits (part s a b) × (48 ≤ get_or s b 0) × (get_or s b 0 ≤ 57)
 digits_less s a b h g d =
-    let k = split_digits (part s a b) (get_or s b 0 ∷ []) (rw (part_more s a b h g) at d) in
+    let k = digits_split (part s a b) (get_or s b 0 ∷ []) (rw (part_more s a b h g) at d) in
     (k.0, k.1.0, k.1.1)

@@ -6,12 +6,12 @@ use mathlib.Core.List.{List, []}
 use Prim.Native.Nat.{ℕ, ◌+◌, ◌-◌, ◌*◌, ◌<◌, ◌≤◌}
 use native.Mathlib.Omega.{arith}
 use borrow.Author.Tests.{eqb-true, eqb-false, ltb-true}
-use lib.Dec.{ltb, leb, eqb}
+use lib.Dec.{ltb, eqb}
 use lib.ListN.{length, get_or}
-use Rattle.buffer.specs.Characters.{decimal_point, letter_i, letter_f, letter_l, letter_a, letter_x, letter_t}
+use Rattle.buffer.specs.Characters.{is_printable, decimal_point, letter_i, letter_f, letter_l, letter_a, letter_t}
 use Rattle.number.specs.Digits.{is_digit}
 use Rattle.number.proofs.DigitLaws.{value_none, digit_bounds}
-use Rattle.format_grammar.specs.Characters.{opening_bracket, slash_sign, apostrophe, quotation_mark, closing_bracket, comma}
+use Rattle.format_grammar.specs.Characters.{opening_bracket, slash_sign, apostrophe, quotation_mark, closing_bracket, comma, letter_x}
 use Rattle.format_items.specs.Items.{number, Repeat, Items, join}
 use Rattle.format_grammar.specs.Grammar.{At, NumberAt, RepeatAt, FieldAt, Mark, doubled, Nonterminal, Derives}
 use Rattle.format_grammar.specs.Reading.{Use, Mode, Open, State, step, step_within, written, separated, only_absent, skipped, opened, begun, pointed, used, close, is_empty}
@@ -163,7 +163,7 @@ reached_step {s} h (Reached.inside {m} {at} {cs} g k) =
     let b : ℕ = get_or s at 0 in
     pick_cases (λ st. Reached s (at + 1) st) (eqb b m) _ _
     (λ e. Reached.mark g k (found m h e))
-    (λ d. pick_cases (λ st. Reached s (at + 1) st) (leb 32 b && leb b 126) _ _ (λ e. Reached.inside g (plain_at k h d e)) (λ _. Reached.dead))
+    (λ d. pick_cases (λ st. Reached s (at + 1) st) (is_printable b) _ _ (λ e. Reached.inside g (plain_at k h d e)) (λ _. Reached.dead))
 reached_step {s} h (Reached.mark {m} {l} {a} {b} {cs} {xs} {q} g k here) =
     pick_cases (λ st. Reached s (b + 1 + 1) st) (eqb (get_or s (b + 1) 0) m) _ _
     (λ e. rw (eqb-true (get_or s (b + 1) 0) m e) (Reached.inside g (doubled_at k here (found m h e))))

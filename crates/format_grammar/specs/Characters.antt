@@ -1,4 +1,5 @@
--- The bytes of characters that have a meaning in a format. (Letters, digits and the decimal point: `buffer`, `Characters`.)
+-- The bytes of characters that have a meaning in a format alone. (Digits, the decimal point, and the letters that fields or list text
+-- use too: `buffer`, `Characters`.)
 -- Assumes nothing.
 use Rattle.std.specs.Prelude.{ℕ}
 
@@ -25,3 +26,7 @@ comma = 44
 -- /
 abbrev pub slash_sign : ℕ
 slash_sign = 47
+
+-- the letters that only formats use
+abbrev pub letter_x : ℕ
+letter_x = 88

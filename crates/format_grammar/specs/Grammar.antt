@@ -10,9 +10,9 @@
 --   'Capital letters; no blanks outside literals.'                       no rule admits another byte
 -- Assumes nothing.
 use Rattle.std.specs.Prelude.{◌≡◌, ◌⊎◌, cond, List, [], ◌∷◌, ◌++◌, ℕ, ◌+◌, ◌-◌, ◌<◌, ◌≤◌, eqb, length, get_or, take, drop}
-use Rattle.buffer.specs.Characters.{decimal_point, Printable, letter_a, letter_f, letter_i, letter_l, letter_t, letter_x}
+use Rattle.buffer.specs.Characters.{decimal_point, Printable, letter_a, letter_f, letter_i, letter_l, letter_t}
 use Rattle.number.specs.Digits.{Digits, value}
-use Rattle.format_grammar.specs.Characters.{quotation_mark, apostrophe, opening_bracket, closing_bracket, comma, slash_sign}
+use Rattle.format_grammar.specs.Characters.{quotation_mark, apostrophe, opening_bracket, closing_bracket, comma, slash_sign, letter_x}
 use Rattle.format_items.specs.Items.{Number, number, Repeat, Field, Items, join}
 
 -- the byte c stands at offset a

@@ -3,9 +3,9 @@
 -- is that of the longest beginning that some grammatical text shares.)
 -- Assumes nothing.
 use Rattle.std.specs.Prelude.{Bool, true, false, ◌&&◌, ◌||◌, cond, List, [], ◌∷◌, ◌++◌, ℕ, ◌+◌, ◌-◌, ◌*◌, ltb, eqb, drop}
-use Rattle.buffer.specs.Characters.{decimal_point, digit_zero, is_printable, letter_a, letter_f, letter_i, letter_l, letter_t, letter_x}
+use Rattle.buffer.specs.Characters.{decimal_point, digit_zero, is_printable, letter_a, letter_f, letter_i, letter_l, letter_t}
 use Rattle.number.specs.Digits.{is_digit}
-use Rattle.format_grammar.specs.Characters.{quotation_mark, apostrophe, opening_bracket, closing_bracket, comma, slash_sign}
+use Rattle.format_grammar.specs.Characters.{quotation_mark, apostrophe, opening_bracket, closing_bracket, comma, slash_sign, letter_x}
 use Rattle.format_grammar.specs.Grammar.{levels}
 use Rattle.format_items.specs.Items.{Number, number, Repeat, absent, given, I, F, L, A, Aw, Items, join}
 

@@ -1,3 +1,4 @@
 pub mod ItemLaws
 pub mod RangeLaws
 pub mod MetLaws
+pub mod MetWithinLaws

@@ -4,11 +4,16 @@ ghost use Rattle.format_items.specs.Refusals.{longest_format};
 ghost use Rattle.format_items.specs.Size.{largest_size};
 ghost use Rattle.format_load.specs.Lent.{TakesRuns, UnderFormat};
 
-use crate::LoadError;
 use crate::load::load;
-use format_items::FormatRefusal;
+use crate::{LoadError, MEDIUM_FORMAT, SHORT_FORMAT};
+use format_items::{FormatRefusal, LARGEST_SIZE, LONGEST_FORMAT};
 use format_words::run::Run;
 use format_words::{Entry, Word};
+
+// The longest runs that the arrays for short and for medium formats hold.
+const SHORT_RUN: usize = 64;
+
+const MEDIUM_RUN: usize = 512;
 
 // With arrays for a format of at most CHARS bytes that has a run of at most RUN words; `None` where they are too small for this
 // format. Not inlined, so that the stack of a call holds the arrays of one size.
@@ -44,11 +49,11 @@ pub fn with_run<T, R, F: Fn(Run<'_>, &mut [T]) -> R + Drop>(
     requires { TakesRuns F.Fn f lent.old }
     ensures { UnderFormat F.Fn f format.now lent.old result lent.new }
 {
-    if let Some(answer) = within::<64, 64, T, R, F>(format, lent, &f) {
+    if let Some(answer) = within::<SHORT_FORMAT, SHORT_RUN, T, R, F>(format, lent, &f) {
         return answer;
     }
-    if let Some(answer) = within::<256, 512, T, R, F>(format, lent, &f) {
+    if let Some(answer) = within::<MEDIUM_FORMAT, MEDIUM_RUN, T, R, F>(format, lent, &f) {
         return answer;
     }
-    within::<1024, 4096, T, R, F>(format, lent, &f).unwrap()
+    within::<LONGEST_FORMAT, LARGEST_SIZE, T, R, F>(format, lent, &f).unwrap()
 }

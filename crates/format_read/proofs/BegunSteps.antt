@@ -8,8 +8,10 @@ use native.Mathlib.Omega.{arith}
 use borrow.Author.Tests.{ne_eqb}
 use lib.ListN.{length, get_or}
 use Rattle.std.specs.Prelude.{Option, Some, None, is_some, unwrap_or, Result, Ok, Err}
+use Rattle.buffer.specs.Characters.{letter_i, letter_f, letter_l, letter_a, letter_t}
+use Rattle.format_grammar.specs.Characters.{quotation_mark, apostrophe, opening_bracket, slash_sign, letter_x}
 use Rattle.format_items.specs.Items.{number, Repeat, times, Items, join}
-use Rattle.format_items.specs.Ranges.{ranged, repeat_numbers, numbers}
+use Rattle.format_items.specs.Ranges.{range_n, repeat_numbers, numbers}
 use Rattle.format_items.specs.Met.{Met}
 use Rattle.format_grammar.specs.Reading.{Use, Mode, Open, State, wanted, begun}
 use Rattle.format_words.specs.declared.Word.{Word}
@@ -44,7 +46,7 @@ module _ {s : List ℕ} {from at : ℕ} {v : Option ℕ} (f : NumberFound s from
   pub begun_stuck : ((l : ℕ) (xs : Items) (q : Open) → begun (number_at from v) at l xs q (get_or s at 0) ≡ State.dead) → Stuck s from (wanted from) at
   begun_stuck g = number_stuck f Use.start g
 
-  pub slash_read : get_or s at 0 ≡ 47 → (r : ℕ) → r ≡ unwrap_or v 1 → (o o₁ : Option ℕ) → o₁ ≡ outside_after o (repeat_numbers (number_at from v)) → ItemRead s from (wanted from) [] (from + 1) o word.Slash r (at + 1) o₁
+  pub slash_read : get_or s at 0 ≡ slash_sign → (r : ℕ) → r ≡ unwrap_or v 1 → (o o₁ : Option ℕ) → o₁ ≡ outside_after o (repeat_numbers (number_at from v)) → ItemRead s from (wanted from) [] (from + 1) o word.Slash r (at + 1) o₁
   unfolding numbers
   slash_read g r rep o o₁ out =
       let k = number_at from v in
@@ -60,20 +62,20 @@ module _ {s : List ℕ} {from at : ℕ} {v : Option ℕ} (f : NumberFound s from
         high = omega arith;
       }
 
-  pub begun_other : NoBracketOrMark (get_or s at 0) → (get_or s at 0 ≡ 73 → ⊥) → (get_or s at 0 ≡ 70 → ⊥) → (get_or s at 0 ≡ 76 → ⊥) → (get_or s at 0 ≡ 65 → ⊥) → (get_or s at 0 ≡ 84 → ⊥) → (get_or s at 0 ≡ 88 → ⊥) → (get_or s at 0 ≡ 47 → ⊥)
+  pub begun_other : NoBracketOrMark (get_or s at 0) → (get_or s at 0 ≡ letter_i → ⊥) → (get_or s at 0 ≡ letter_f → ⊥) → (get_or s at 0 ≡ letter_l → ⊥) → (get_or s at 0 ≡ letter_a → ⊥) → (get_or s at 0 ≡ letter_t → ⊥) → (get_or s at 0 ≡ letter_x → ⊥) → (get_or s at 0 ≡ slash_sign → ⊥)
       → Stuck s from (wanted from) at
   begun_other n i j l a t x d =
       let b = get_or s at 0 in
-      begun_stuck (λ l' xs q. simp (ne_eqb b 73 i, ne_eqb b 70 j, ne_eqb b 76 l, ne_eqb b 65 a, ne_eqb b 40 n.no_bracket, ne_eqb b 88 x, ne_eqb b 84 t, ne_eqb b 47 d, ne_eqb b 39 n.no_apostrophe, ne_eqb b 34 n.no_quotation_mark))
+      begun_stuck (λ l' xs q. simp (ne_eqb b letter_i i, ne_eqb b letter_f j, ne_eqb b letter_l l, ne_eqb b letter_a a, ne_eqb b opening_bracket n.no_bracket, ne_eqb b letter_x x, ne_eqb b letter_t t, ne_eqb b slash_sign d, ne_eqb b apostrophe n.no_apostrophe, ne_eqb b quotation_mark n.no_quotation_mark))
 
-pub X-read : {s : List ℕ} {from v at : ℕ} → NumberFound s from (Some v) at → at < length s → get_or s at 0 ≡ 88 → (o o₁ : Option ℕ) → o₁ ≡ outside_after o (repeat_numbers (Repeat.given (number from v)))
+pub X-read : {s : List ℕ} {from v at : ℕ} → NumberFound s from (Some v) at → at < length s → get_or s at 0 ≡ letter_x → (o o₁ : Option ℕ) → o₁ ≡ outside_after o (repeat_numbers (Repeat.given (number from v)))
     → ItemRead s from (wanted from) [] (from + 1) o (word.X v) 1 (at + 1) o₁
 unfolding numbers
 X-read {s} {from} {v} {at} f h g o o₁ out =
     let n = number from v in
     record {
       item = Items.X n Items.none;
-      late = ranged n 1 255 ∷ [];
+      late = range_n n ∷ [];
       first = λ t. First.X;
       runs = number_on f Use.start h (λ l xs q. State.within Mode.after l (join xs (Items.X n Items.none)) q) (λ l xs q. rw g) (λ l xs q a b. refl);
       no_characters = refl;
@@ -96,11 +98,11 @@ module _ {s : List ℕ} {from at high : ℕ} {v : Option ℕ} {u : Use} {k : Rep
       (subst (λ z. ItemRead s (at + 1) (Mode.digits u (at + 1) 0) (repeat_numbers z) (at + 1) o₁ (w x.value) r x.next o₂) is (one_read e g.0 r rep o₁ o₂ g.1))
 
 -- T: no digit may stand before it
-pub T-after_digits : {s : List ℕ} {from at : ℕ} {v : Option ℕ} → NumberFound s from v at → at < length s → get_or s at 0 ≡ 84 → is_some v ≡ true → Stuck s from (wanted from) at
+pub T-after_digits : {s : List ℕ} {from at : ℕ} {v : Option ℕ} → NumberFound s from v at → at < length s → get_or s at 0 ≡ letter_t → is_some v ≡ true → Stuck s from (wanted from) at
 T-after_digits {v = None} f h g e = absurd (cc)
 T-after_digits {v = Some v} f h g e = begun_stuck f h (λ l xs q. rw g)
 
-module _ {s : List ℕ} {from at : ℕ} {v : Option ℕ} (f : NumberFound s from v at) (h : at < length s) (g : get_or s at 0 ≡ 84) (e : is_some v ≡ false) where
+module _ {s : List ℕ} {from at : ℕ} {v : Option ℕ} (f : NumberFound s from v at) (h : at < length s) (g : get_or s at 0 ≡ letter_t) (e : is_some v ≡ false) where
   none_before : v ≡ None
   none_before = not_some v e
 

@@ -12,7 +12,7 @@ use Rattle.std.specs.Prelude.{Option, Some, None, is_some, unwrap_or, Result, Er
 use Rattle.std.specs.Option.{ok_or}
 use Rattle.std.proofs.lemmas.Result.{err_from_is_err_and}
 use Rattle.format_items.specs.Items.{Number, number, value_of, Repeat, times, Field, Items, join}
-use Rattle.format_items.specs.Ranges.{Ranged, ranged, repeat_numbers, field_numbers, numbers}
+use Rattle.format_items.specs.Ranges.{Ranged, range_w, range_d, ranged, repeat_numbers, field_numbers, numbers}
 use Rattle.format_items.specs.Met.{Met}
 use Rattle.format_grammar.specs.Reading.{Use, Mode, Open, State, Reading, pick, step, step_within, unless_dead, used, separated, read_at}
 use Rattle.format_grammar.proofs.ReadLaws.{read_step, read_end, read_same, read_stuck, step_used}
@@ -132,7 +132,7 @@ module _ {u : Use} {k : Repeat} {w : ℕ → Word} (field : Number → Field Num
   ends_field : ((at l : ℕ) (xs : Items) (q : Open) (b : ℕ) → used u Repeat.absent at l xs q b ≡ State.dead)
       → ((n : Number) (at l : ℕ) (xs : Items) (q : Open) (b : ℕ) → used u (Repeat.given n) at l xs q b ≡ separated at l (join xs (Items.field k (field n) Items.none)) q b)
       → ((t : List ℕ) (n : Number) → First (Items.field k (field n) Items.none) (times k) (met_of t (w (value_of n))) Items.none)
-      → ((v : ℕ) → reach (w v) ≡ 0) → ((n : Number) → field_numbers (field n) ≡ ranged n 1 64 ∷ []) → Ends u k w 64
+      → ((v : ℕ) → reach (w v) ≡ 0) → ((n : Number) → field_numbers (field n) ≡ range_w n ∷ []) → Ends u k w 64
   unfolding numbers
   ends_field needed enough first none ranges =
       record {
@@ -141,7 +141,7 @@ module _ {u : Use} {k : Repeat} {w : ℕ → Word} (field : Number → Field Num
         enough = enough;
         first = first;
         no_characters = none;
-        numbers_are = λ n. rw (ranges n) (append-nil (repeat_numbers k ++ ranged n 1 64 ∷ []));
+        numbers_are = λ n. rw (ranges n) (append-nil (repeat_numbers k ++ range_w n ∷ []));
       }
 
 pub ends-I : (k : Repeat) → Ends (Use.width_i k) k word.I 64
@@ -180,18 +180,18 @@ module _ {s : List ℕ} {at next : ℕ} (k : Repeat) (r : ℕ) (rep : times k �
         high = f.high;
       }
 
-  pub text_wide : {v : ℕ} → NumberFound s at (Some v) next → (o' : Option ℕ) → o' ≡ keep_first o (ranged (number at v) 1 64) → ItemRead s at (Mode.digits (Use.width_a k) at 0) (repeat_numbers k) at o (word.Aw v) r next o'
+  pub text_wide : {v : ℕ} → NumberFound s at (Some v) next → (o' : Option ℕ) → o' ≡ keep_first o (range_w (number at v)) → ItemRead s at (Mode.digits (Use.width_a k) at 0) (repeat_numbers k) at o (word.Aw v) r next o'
   unfolding numbers
   text_wide {v} f o' out =
       let n = number at v in
       record {
         item = Items.field k (Field.Aw n) Items.none;
-        late = ranged n 1 64 ∷ [];
+        late = range_w n ∷ [];
         first = λ t. subst (λ (m : ℕ). First (Items.field k (Field.Aw n) Items.none) m (Met.field (Field.Aw v)) Items.none) rep First.field;
         runs = number_ends f (Use.width_a k) (Items.field k (Field.Aw n) Items.none) (λ l xs q b. refl);
         no_characters = refl;
-        numbers_are = append-nil (repeat_numbers k ++ ranged n 1 64 ∷ []);
-        outside_is = out ∙ sym (outside_one o (ranged n 1 64));
+        numbers_are = append-nil (repeat_numbers k ++ range_w n ∷ []);
+        outside_is = out ∙ sym (outside_one o (range_w n));
         more = f.low;
         high = f.high;
       }
@@ -216,7 +216,7 @@ module _ {s : List ℕ} {at w point : ℕ} (f : NumberFound s at (Some w) point)
       pub decimal_no_places : NumberFound s (point + 1) None next → Stuck s at (Mode.digits (Use.width_f k) at 0) next
       decimal_no_places g l xs q = decimal_on l xs q ∙ number_stuck g (Use.places k (number at w)) (λ l xs q. refl) l xs q
 
-      pub decimal_read : {d : ℕ} → NumberFound s (point + 1) (Some d) next → (r : ℕ) → times k ≡ r → (o o₁ o₂ : Option ℕ) → o₁ ≡ keep_first o (ranged (number at w) 1 64) → o₂ ≡ keep_first o₁ (ranged (number (point + 1) d) 0 9)
+      pub decimal_read : {d : ℕ} → NumberFound s (point + 1) (Some d) next → (r : ℕ) → times k ≡ r → (o o₁ o₂ : Option ℕ) → o₁ ≡ keep_first o (range_w (number at w)) → o₂ ≡ keep_first o₁ (range_d (number (point + 1) d))
           → ItemRead s at (Mode.digits (Use.width_f k) at 0) (repeat_numbers k) at o (word.F w d) r next o₂
       unfolding numbers outside_after
       decimal_read {d} g r rep o o₁ o₂ x₁ x₂ =
@@ -225,12 +225,12 @@ module _ {s : List ℕ} {at w point : ℕ} (f : NumberFound s at (Some w) point)
           let item = Items.field k (Field.F m n) Items.none in
           record {
             item = item;
-            late = ranged m 1 64 ∷ ranged n 0 9 ∷ [];
+            late = range_w m ∷ range_d n ∷ [];
             first = λ t. subst (λ (j : ℕ). First (Items.field k (Field.F m n) Items.none) j (Met.field (Field.F w d)) Items.none) rep First.field;
             runs = λ l xs q. decimal_on l xs q ∙ number_ends g (Use.places k m) (Items.field k (Field.F m n) Items.none) (λ l xs q b. refl) l xs q;
             no_characters = refl;
-            numbers_are = append-nil (repeat_numbers k ++ ranged m 1 64 ∷ ranged n 0 9 ∷ []);
-            outside_is = x₂ ∙ ap (λ (z : Option ℕ). keep_first z (ranged n 0 9)) x₁;
+            numbers_are = append-nil (repeat_numbers k ++ range_w m ∷ range_d n ∷ []);
+            outside_is = x₂ ∙ ap (λ (z : Option ℕ). keep_first z (range_d n)) x₁;
             more = omega (arith, f.low, g.low);
             high = g.high;
           }

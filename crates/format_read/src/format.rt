@@ -1,5 +1,6 @@
 // The whole format.
 ghost use Rattle.std.specs.Prelude.{◌≤◌, length};
+ghost use Rattle.format_items.specs.Refusals.{longest_format};
 ghost use Rattle.format_read.specs.Whole.{format_read};
 
 use crate::{Position, Ungrammatical};
@@ -12,7 +13,7 @@ pub fn read_format<'a>(
     entries: &mut [Entry],
     chars: &mut [u8],
 ) -> Result<Position<'a>, Ungrammatical>
-    requires { (length text.now ≤ 1024) × (length text.now ≤ length entries.old) × (length text.now ≤ length chars.old) }
+    requires { (length text.now ≤ longest_format) × (length text.now ≤ length entries.old) × (length text.now ≤ length chars.old) }
     ensures { format_read text.now entries.new chars.new result }
 {
     if text.first() != Some(&b'(') {

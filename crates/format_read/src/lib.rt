@@ -2,6 +2,7 @@
 #![tactic(auto)]
 
 ghost use Rattle.std.specs.Prelude.{◌≡◌, ◌≤◌, length};
+ghost use Rattle.format_items.specs.Refusals.{longest_format};
 ghost use Rattle.format_items.specs.declared.FormatRefusal.TheVariants.{Grammar};
 
 mod digits;
@@ -25,7 +26,7 @@ pub struct Position<'a> {
     pub entries: usize,
     pub chars: usize,
     pub outside: Option<usize>,
-    ghost short: { length text.now ≤ 1024 },
+    ghost short: { length text.now ≤ longest_format },
     ghost within: { at ≤ length text.now },
     ghost few_entries: { entries ≤ at },
     ghost few_chars: { chars ≤ at },

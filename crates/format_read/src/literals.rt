@@ -1,5 +1,6 @@
 // Literals.
 ghost use Rattle.std.specs.Prelude.{◌≤◌, length};
+ghost use Rattle.format_items.specs.Refusals.{longest_format};
 ghost use Rattle.format_read.specs.Steps.{literal_found};
 
 use crate::{Literal, Ungrammatical};
@@ -14,7 +15,7 @@ pub fn read_literal(
     chars: &mut [u8],
     c: usize,
 ) -> Result<Literal, Ungrammatical>
-    requires { (at ≤ length text.now) × (c ≤ at) × (length text.now ≤ length chars.old) × (length text.now ≤ 1024) }
+    requires { (at ≤ length text.now) × (c ≤ at) × (length text.now ≤ length chars.old) × (length text.now ≤ longest_format) }
     ensures { literal_found text.now at m chars.old c chars.new result }
 {
     let mut p = at;

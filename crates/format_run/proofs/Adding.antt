@@ -4,7 +4,7 @@ use Rattle.std.proofs.Common.{◌≡◌, sym, ap, ◌∙◌, List, ◌∷◌, �
 use native.Mathlib.Decide.{dec_le}
 use native.Mathlib.Nat.{zero-mul, suc-mul}
 use Rattle.format_items.specs.Items.{Items}
-use Rattle.format_items.specs.Size.{size}
+use Rattle.format_items.specs.Size.{size, largest_size}
 use Rattle.format_words.specs.declared.Word.{Word}
 use Rattle.format_words.specs.declared.Entry.{Entry}
 use Rattle.format_words.specs.declared.Entry.TheVariants as entry
@@ -15,15 +15,15 @@ use Rattle.format_run.proofs.Views.{as_item, as_group, none_left}
 
 -- ---- sizes as far as they matter
 
-over : (r x y : ℕ) → 4097 ≤ x → capped (y + r * 4097) ≡ capped (y + r * x)
+over : (r x y : ℕ) → largest_size + 1 ≤ x → capped (y + r * (largest_size + 1)) ≡ capped (y + r * x)
 over zero x y h = omega (arith, zero-mul x)
-over (suc k) x y h = omega (arith, suc-mul k x, suc-mul k 4097)
+over (suc k) x y h = omega (arith, suc-mul k x, suc-mul k (largest_size + 1))
 
 capped_times : (r x y : ℕ) → capped (y + r * capped x) ≡ capped (y + r * x)
-capped_times r x y = go (dec_le 4097 x)
+capped_times r x y = go (dec_le (largest_size + 1) x)
   where
-    go : Dec (4097 ≤ x) → capped (y + r * capped x) ≡ capped (y + r * x)
-    go (yes h) = let e : capped x ≡ 4097 = omega arith in rw e (over r x y h)
+    go : Dec (largest_size + 1 ≤ x) → capped (y + r * capped x) ≡ capped (y + r * x)
+    go (yes h) = let e : capped x ≡ largest_size + 1 = omega arith in rw e (over r x y h)
     go (no h) = let e : capped x ≡ x = omega arith in rw e
 
 -- ---- the loop: the items that `rest` holds are left, the others are in the total
@@ -34,7 +34,7 @@ pub record Left (t : List ℕ) (c l total : ℕ) (rest : List Entry) (xs : Items
   pub sum : capped (size xs) ≡ capped (total + size zs)
 
 pub record Added (es : List Entry) (l total : ℕ) (rest : List Entry) : Type 0 where
-  pub low : total ≤ 4097
+  pub low : total ≤ largest_size + 1
   pub all : (t : List ℕ) (c : ℕ) (xs : Items) → Holds t c l es xs → Left t c l total rest xs
 
 module _ {es : List Entry} {l total : ℕ} {rest : List Entry} (w : Added es l total rest) where

@@ -13,9 +13,9 @@ use native.Mathlib.Numerals.{add-one}
 use borrow.Author.Tests.{lt-ltb, le-ltb}
 use lib.ListN.{drop_of_length-le, get_or-map, length-take}
 use lib.Seq.{take_all, take-take, drop-cons}
-use Rattle.list_elements.specs.Elements.{value_of, values}
+use Rattle.list_elements.specs.Elements.{value_of, values, most_elements}
 use Rattle.list_elements.specs.Checked.{CheckedAs}
-use Rattle.list_elements.specs.Limits.{most_elements, good, bad, first_failing, check_values, check_list}
+use Rattle.list_elements.specs.Limits.{good, bad, first_failing, check_values, check_list}
 use Rattle.list_elements.specs.declared.Value.{Value}
 use Rattle.list_elements.specs.declared.Element.{Element}
 use Rattle.list_elements.specs.declared.List as carried
@@ -53,24 +53,24 @@ module _ {test : Value → Bool} {es : List Element} {i : ℕ} (t : Checked test
       let l : length (values_of es) ≤ i = rw length-map h in
       t.left ∙ rw (drop_of_length-le (values_of es) l)
 
--- ---- row 6, by the elements before the count, 64 at most
+-- ---- row 6, by the elements before the count, so many at most
 
 -- the length of an array in a struct
 pub any_map : {X Y : Type 0} (f : X → Y) (l : List X) (n : ℕ) → length (map f l) ≡ n → length l ≡ n
 any_map f l n e = sym (length-map l f) ∙ e
 
-module _ (test : Value → Bool) (l : carried.List) {n : ℕ} (is : n ≡ min l.count 64) where
+module _ (test : Value → Bool) (l : carried.List) {n : ℕ} (is : n ≡ min l.count most_elements) where
   firsts : take most_elements (values l) ≡ values_of (take n l.elements)
   unfolding values
-  firsts = go (dec_le l.count 64) ∙ take-map value_of n l.elements
+  firsts = go (dec_le l.count most_elements) ∙ take-map value_of n l.elements
     where
-      go : Dec (l.count ≤ 64) → take 64 (take l.count (values_of l.elements)) ≡ take n (values_of l.elements)
+      go : Dec (l.count ≤ most_elements) → take most_elements (take l.count (values_of l.elements)) ≡ take n (values_of l.elements)
       go (yes h) =
           let e : n ≡ l.count = omega arith in
-          take_all 64 (take l.count (values_of l.elements)) (omega (arith, length-take l.count (values_of l.elements))) ∙ ap (λ k. take k (values_of l.elements)) (sym e)
+          take_all most_elements (take l.count (values_of l.elements)) (omega (arith, length-take l.count (values_of l.elements))) ∙ ap (λ k. take k (values_of l.elements)) (sym e)
       go (no h) =
-          let e : n ≡ 64 = omega arith in
-          take-take 64 l.count (values_of l.elements) (omega arith) ∙ ap (λ k. take k (values_of l.elements)) (sym e)
+          let e : n ≡ most_elements = omega arith in
+          take-take most_elements l.count (values_of l.elements) (omega arith) ∙ ap (λ k. take k (values_of l.elements)) (sym e)
 
   pub check_bad : {i : ℕ} → first_failing test 0 (values_of (take n l.elements)) ≡ bad i → check_list test l ≡ bad i
   unfolding check_values
@@ -85,11 +85,11 @@ module _ (test : Value → Bool) (l : carried.List) {n : ℕ} (is : n ≡ min l.
   check_fine e h = rw (firsts, e, le-ltb most_elements l.count h)
 
   -- the elements before the count, where there are so many
-  pub checked_as : (o : Option (Bor (List Element))) → IsGetRangeResult l.elements 0 l.count o → length l.elements ≡ 64 → first_failing test 0 (values_of (take n l.elements)) ≡ good
-      → CheckedAs test l (ok_or o (record { place = 64 }))
+  pub checked_as : (o : Option (Bor (List Element))) → IsGetRangeResult l.elements 0 l.count o → length l.elements ≡ most_elements → first_failing test 0 (values_of (take n l.elements)) ≡ good
+      → CheckedAs test l (ok_or o (record { place = most_elements }))
   checked_as None h full e = check_many e (over h.0)
     where
-      over : (l.count < 0) ⊎ (length l.elements < l.count) → 64 < l.count
+      over : (l.count < 0) ⊎ (length l.elements < l.count) → most_elements < l.count
       over (inl g) = absurd (omega arith)
       over (inr g) = omega arith
   checked_as (Some es) h full e = (check_fine e (omega (arith, h.0.1)), h.0.2 ∙ rw (sub-zero l.count))

@@ -12,8 +12,8 @@ use lib.ListN.{length, get_or, take, length-take, get_or-map}
 use lib.Seq.{take_all}
 use Rattle.std.specs.Prelude.{Ok, Err, All}
 use Rattle.std.proofs.lemmas.List.{length-map, take-map, get_or_default}
-use Rattle.list_elements.specs.Elements.{value_of, zero_value, values}
-use Rattle.list_elements.specs.Limits.{ListCheck, good, bad, check_list, most_elements, first_failing, over_limit, check_values}
+use Rattle.list_elements.specs.Elements.{value_of, zero_value, values, most_elements}
+use Rattle.list_elements.specs.Limits.{ListCheck, good, bad, check_list, first_failing, over_limit, check_values}
 use Rattle.list_elements.specs.declared.Value.{Value}
 use Rattle.list_elements.specs.declared.Element.{Element}
 use Rattle.list_elements.specs.declared.List as carried

@@ -1,9 +1,10 @@
 -- Row 6 as the code answers it: the elements of a good list, or the bad element. (Nothing here need be believed: no public call's
 -- contract speaks of it.)
 -- Assumes nothing.
-use Rattle.std.specs.Prelude.{◌≡◌, Bool, List, ℕ, Result, Ok, Err, take}
+use Rattle.std.specs.Prelude.{◌≡◌, Bool, List, map, ℕ, Result, Ok, Err, take}
 use Rattle.std.specs.Borrow.{Bor}
-use Rattle.list_elements.specs.Limits.{good, check_list, list_check}
+use Rattle.list_elements.specs.Elements.{value_of}
+use Rattle.list_elements.specs.Limits.{ListCheck, good, check_list}
 use Rattle.list_elements.specs.declared.Value.{Value}
 use Rattle.list_elements.specs.declared.Element.{Element}
 use Rattle.list_elements.specs.declared.BadElement.{BadElement}
@@ -15,7 +16,11 @@ abbrev pub CheckedAs : (Value → Bool) → carried.List → Result (Bor (List E
 CheckedAs passes l (Ok es) = (check_list passes l ≡ good) × (es.now ≡ take l.count l.elements)
 CheckedAs passes l (Err e) = check_list passes l ≡ Err e
 
--- and the area in which their texts lie
-abbrev pub listed_as : List ℕ → carried.List → Result Listed BadElement → Type 0
-listed_as area l (Ok x) = (list_check area l ≡ good) × (x.elements.now ≡ take l.count l.elements) × (x.area.now ≡ area)
-listed_as area l (Err e) = list_check area l ≡ Err e
+-- the values of listed elements
+abbrev pub values_in : Listed → List Value
+values_in l = map value_of l.elements.now
+
+-- the elements with these values of a list that has this check, and the area in which their texts lie
+abbrev pub listed_as : ListCheck → List Value → List ℕ → Result Listed BadElement → Type 0
+listed_as check vs area (Ok x) = (check ≡ good) × (values_in x ≡ vs) × (x.area.now ≡ area)
+listed_as check vs area (Err e) = check ≡ Err e

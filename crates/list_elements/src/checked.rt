@@ -1,6 +1,7 @@
 // Row 6: whether the elements of a list are as they have to be, and then the elements.
 ghost use Rattle.std.specs.Prelude.{◌≡◌, Bool};
-ghost use Rattle.list_elements.specs.Limits.{may_be_wanted};
+ghost use Rattle.list_elements.specs.Elements.{values};
+ghost use Rattle.list_elements.specs.Limits.{list_check, may_be_wanted};
 ghost use Rattle.list_elements.specs.Checked.{CheckedAs, listed_as};
 
 use crate::listed::Listed;
@@ -25,7 +26,7 @@ impl List {
 
     // The elements, where they are within their limits, their texts in the area.
     pub fn listed<'a>(&'a self, area: &'a [u8]) -> Result<Listed<'a>, BadElement>
-        ensures { listed_as area.now self.now result }
+        ensures { listed_as (list_check area.now self.now) (values self.now) area.now result }
     {
         let elements = self.checked(|value| value.is_within_limits(area))?;
         Ok(Listed { elements, area })

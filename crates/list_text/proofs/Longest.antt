@@ -11,10 +11,11 @@ use borrow.Author.Tests.{lt-ltb, le-leb, lt-leb, ne_eqb}
 use lib.Dec.{eqb, leb}
 use lib.ListN.{length, take, drop, get_or, length-append, length-drop, length-take, get_or-eq_default}
 use lib.Seq.{take-append-le, drop-append-le}
+use Rattle.std.proofs.lemmas.Bool.{and_left, and_right}
 use Rattle.number.specs.Digits.{is_digit}
 use Rattle.buffer.specs.Characters.{letter_i, letter_d, letter_l, letter_a}
-use Rattle.list_elements.specs.Elements.{text_bytes}
-use Rattle.list_elements.specs.Limits.{most_elements, longest_text, good, bad, within_limits, first_failing, check_values}
+use Rattle.list_elements.specs.Elements.{text_bytes, most_elements}
+use Rattle.list_elements.specs.Limits.{longest_text, good, bad, within_limits, first_failing, check_values}
 use Rattle.list_elements.specs.declared.Text.{Text}
 use Rattle.list_elements.specs.declared.Value.{Value}
 use Rattle.list_elements.specs.declared.Value.TheVariants as value
@@ -51,13 +52,6 @@ pub after_long : (s : List ℕ) → length (after_line s) ≡ length s - (length
 after_long s = ap length (sym (after_is s)) ∙ length-drop (length (first_line s) + 1) s
 
 -- ---- a line that is too long
-
-and_left : (a b : Bool) → a ≡ false → (a && b) ≡ false
-and_left a b e = rw e
-
-and_right : (a b : Bool) → b ≡ false → (a && b) ≡ false
-and_right true b e = e
-and_right false b e = refl
 
 -- more digits than so many
 pub digits_over : (most : ℕ) (s : List ℕ) → most < length s → some_digits most s ≡ false

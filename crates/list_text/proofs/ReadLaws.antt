@@ -13,8 +13,8 @@ use lib.ListN.{length, get_or, take, drop, set, length-drop, drop_of_length-le}
 use lib.Seq.{take_all, take-suc, take-take, get_or-take, get_or-drop, drop-drop, split_at, length-take-le}
 use Rattle.std.specs.Prelude.{Result, Ok, Err}
 use Rattle.std.specs.Result.{result_unwrap_or}
-use Rattle.list_elements.specs.Elements.{zero_value, empty_list}
-use Rattle.list_elements.specs.Limits.{most_elements, good, bad, within_limits, first_failing, check_values, check_number, check_place}
+use Rattle.list_elements.specs.Elements.{zero_value, empty_list, most_elements}
+use Rattle.list_elements.specs.Limits.{good, bad, within_limits, first_failing, check_values, check_number, check_place}
 use Rattle.list_elements.specs.Contents.{element_of, list_of}
 use Rattle.list_elements.specs.declared.BadElement.{BadElement}
 use Rattle.list_elements.specs.declared.Value.{Value}

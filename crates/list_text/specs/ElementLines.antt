@@ -3,6 +3,7 @@
 -- Assumes nothing.
 use Rattle.std.specs.Prelude.{Bool, ◌&&◌, ◌||◌, cond, List, ℕ, ◌+◌, ◌-◌, eqb, leb, ℤ, length, take, drop, get_or}
 use Rattle.buffer.specs.Characters.{blank, minus_sign, digit_zero, letter_i, letter_d, letter_l, letter_a, letter_t, letter_f}
+use Rattle.number.specs.Limits.{most_digits}
 use Rattle.number.specs.Digits.{is_digit, all_digits, value}
 use Rattle.number.specs.Magnitude.{with_sign}
 use Rattle.list_elements.specs.declared.Value.{Value}
@@ -23,7 +24,7 @@ after_minus s = cond (has_minus s) (drop 1 s) s
 
 -- 'an optional − and 1 to 18 digits'
 unfoldable pub is_number : List ℕ → Bool
-is_number s = some_digits 18 (after_minus s)
+is_number s = some_digits most_digits (after_minus s)
 
 unfoldable pub number_of : List ℕ → ℤ
 number_of s = with_sign (has_minus s) (value (after_minus s))

@@ -2,9 +2,9 @@
 -- Assumes nothing.
 use Rattle.std.specs.Prelude.{List, [], ◌∷◌, ℕ, ◌+◌, length, Result, Ok, Err}
 use Rattle.std.specs.Result.{result_unwrap_or}
-use Rattle.list_elements.specs.Elements.{empty_list}
+use Rattle.list_elements.specs.Elements.{empty_list, most_elements}
 use Rattle.list_elements.specs.Contents.{list_of}
-use Rattle.list_elements.specs.Limits.{most_elements, within_limits, ListCheck, check_values}
+use Rattle.list_elements.specs.Limits.{within_limits, ListCheck, check_values}
 use Rattle.list_elements.specs.declared.Value.{Value}
 use Rattle.list_elements.specs.declared.List as carried
 use Rattle.list_elements.specs.declared.BadElement.{BadElement}

@@ -2,14 +2,16 @@
 -- Assumes nothing.
 use Rattle.std.specs.Prelude.{◌≡◌, ◌⊎◌, true, false, List, [], ◌∷◌, ◌++◌, ℕ, ◌+◌, ◌-◌, ◌*◌, ◌<◌, ◌≤◌, ℤ, length}
 use Rattle.buffer.specs.Characters.{blank, minus_sign, digit_zero, digit_nine, letter_i, letter_d, letter_l, letter_a, letter_t, letter_f}
+use Rattle.number.specs.Limits.{most_digits}
 use Rattle.number.specs.Digits.{Digits, value}
 use Rattle.number.specs.Magnitude.{with_sign}
-use Rattle.list_elements.specs.Limits.{most_elements, longest_text, bad, within_limits}
+use Rattle.list_elements.specs.Limits.{longest_text, bad, within_limits}
 use Rattle.list_elements.specs.declared.Value.{Value}
 use Rattle.list_elements.specs.declared.Value.TheVariants as value
 use Rattle.list_text.specs.Lines.{first_line, after_line, lines}
 use Rattle.list_text.specs.ElementLines.{malformed, element_on}
 use Rattle.list_text.specs.ListText.{line_check}
+use Rattle.list_elements.specs.Elements.{most_elements}
 
 -- a text has its first line, and the lines of what follows it; the empty text has none
 abbrev pub LinesAre : Type 0
@@ -19,8 +21,8 @@ LinesAre = (s : List ℕ) → 0 < length s → lines s ≡ first_line s ∷ line
 
 -- 'Numbers have an optional − and 1 to 18 digits'
 pub data Number : List ℕ → ℤ → Type 0 where
-  plain : {ds : List ℕ} → Digits ds → 1 ≤ length ds → length ds ≤ 18 → Number ds (with_sign false (value ds))
-  minus : {ds : List ℕ} → Digits ds → 1 ≤ length ds → length ds ≤ 18 → Number (minus_sign ∷ ds) (with_sign true (value ds))
+  plain : {ds : List ℕ} → Digits ds → 1 ≤ length ds → length ds ≤ most_digits → Number ds (with_sign false (value ds))
+  minus : {ds : List ℕ} → Digits ds → 1 ≤ length ds → length ds ≤ most_digits → Number (minus_sign ∷ ds) (with_sign true (value ds))
 
 -- 'I and n; D, u and s; L and T or F; A and the text, single blanks between; the text is the rest of its line', 's one digit'
 pub data ElementLine (start : ℕ) : List ℕ → Value → Type 0 where

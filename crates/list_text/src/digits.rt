@@ -1,10 +1,11 @@
 // Digits read.
 ghost use Rattle.std.specs.Prelude.{◌≡◌, ◌≤◌};
+ghost use Rattle.number.specs.Limits.{most_digits};
 ghost use Rattle.list_text.specs.Steps.{digits_read};
 
 // The number that the whole text makes, if it is one or more digits, at most `most` of them.
 pub fn read_digits(s: &[u8], most: usize) -> Option<u64>
-    requires { most ≤ 18 }
+    requires { most ≤ most_digits }
     ensures { result ≡ digits_read most s.now }
 {
     if !(1..=most).contains(&s.len()) {

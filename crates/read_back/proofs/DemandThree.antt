@@ -8,8 +8,8 @@ use Prim.Native.Nat.{ℕ, ◌≤◌}
 use native.Mathlib.Omega.{arith}
 use lib.ListN.{length, length-map}
 use Rattle.format_items.specs.Items.{Field}
-use Rattle.list_elements.specs.Elements.{kind_of, values}
-use Rattle.list_elements.specs.Limits.{most_elements, within_limits, texts_length}
+use Rattle.list_elements.specs.Elements.{kind_of, values, most_elements}
+use Rattle.list_elements.specs.Limits.{within_limits, texts_length}
 use Rattle.list_elements.specs.Contents.{content_kind, content_of, texts_of}
 use Rattle.list_elements.specs.declared.Value.{Value}
 use Rattle.list_elements.proofs.GoodLaws.{check_good, values_most}

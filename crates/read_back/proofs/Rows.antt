@@ -21,7 +21,7 @@ use Rattle.list_elements.proofs.RowSix.{good_back}
 use Rattle.sheet_walk.specs.Walk.{Trace, sheet, walk}
 use Rattle.sheet_walk.specs.Promises.{EndsWith}
 use Rattle.sheet_walk.proofs.Promises.{records_beyond}
-use Rattle.sheet_rows.specs.Rows.{records_in}
+use Rattle.sheet_rows.specs.Rows.{format_row}
 use Rattle.sheet_rows.proofs.RowLaws.{all_passed, walk_under_lem}
 use Rattle.write_passes.specs.Placed.{value_at}
 use Rattle.sheet_write.specs.Promises as writing
@@ -34,16 +34,17 @@ use Rattle.sheet_read.specs.Promises as reading
 use Rattle.sheet_read.specs.Promises.{kinds_of}
 use Rattle.read_back.specs.DemandThree.{Accepted, ReadsBack}
 use Rattle.read_back.proofs.Placed.{acceptable, kind_at_lem, records_long}
+use Rattle.sheet_walk.specs.Steps.{records_in, widest_record}
 
 -- ---- what becomes of a reading that passes the rows before the walk
 
-rows_passed : (R : ℕ) (format : List ℕ) (xs : Items) (check : ListCheck) (kinds : List Kind) (room : ℕ) (records : List ℕ) → 1 ≤ R → R ≤ 255
+rows_passed : (R : ℕ) (format : List ℕ) (xs : Items) (check : ListCheck) (kinds : List Kind) (room : ℕ) (records : List ℕ) → 1 ≤ R → R ≤ widest_record
     → formats.outcome format ≡ formats.accepted xs → check ≡ good → texts_length kinds ≤ room → 0 < length records / R
     → reading_of R format check kinds room records ≡ concluded (gathered R kinds records (walk (sheet xs kinds (record { width = R; count = length records / R }))))
 unfolding reading_of
 rows_passed R format xs check kinds room records low high f g fits some =
     rw (
-      all_passed R format (wanted_rows check kinds room) (length records / R) (record { from = low; to = high }) f
+      all_passed R (format_row (formats.outcome format)) (wanted_rows check kinds room) (length records / R) (record { from = low; to = high }) (ap format_row f)
           (wanted_passed check kinds room g (le-leb (texts_length kinds) room fits)) (λ z. omega arith),
       walk_under_lem format xs kinds (records_in R (length records)) f,
     )

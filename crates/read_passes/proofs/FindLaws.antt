@@ -20,6 +20,7 @@ use Rattle.sheet_walk.specs.Given.{WordCovers}
 use Rattle.read_passes.specs.Given.{Given, gives, nothing, integer_given, decimal_given, logical_given, text_given, field_gives, kind_at}
 use Rattle.read_passes.specs.Passes.{integer_found, decimal_found, logical_found, text_found, found_in, FoundAs}
 use Rattle.read_passes.proofs.GivenLaws.{is_integer_lem, is_decimal_lem, is_logical_lem, is_text_lem}
+use Rattle.sheet_walk.specs.Steps.{widest_record}
 
 -- what a field gives, as the code answers it
 abbrev pub GivenAs : List ℕ → Kind → Given → Option Value → Type 0
@@ -39,7 +40,7 @@ module _ (records : List ℕ) where
   found_logical k e (Some b) = (_, refl, record { is = refl; of_kind = e; inside = tt; narrow = tt })
   found_logical k e None = refl
 
-  found_text : (k : Kind) (at w : ℕ) → text (text_length k) ≡ k → at + w ≤ length records → w < 256
+  found_text : (k : Kind) (at w : ℕ) → text (text_length k) ≡ k → at + w ≤ length records → w ≤ widest_record
       → GivenAs records k (text_given (text_length k) (take w (drop at records))) (text_found (take w (drop at records)) at)
   unfolding text_bytes
   found_text k at w e room few = go (all_printable part) refl
@@ -54,7 +55,7 @@ module _ (records : List ℕ) where
       go true g = rw g (_, refl, record { is = rw long refl; of_kind = ap text (text_read_length (text_length k) part) ∙ e; inside = rw long room; narrow = rw long few })
       go false g = rw g refl
 
-module _ {t : List ℕ} {kinds : List Kind} {i w : ℕ} (records : List ℕ) (at : ℕ) (room : at + w ≤ length records) (few : w < 256) where
+module _ {t : List ℕ} {kinds : List Kind} {i w : ℕ} (records : List ℕ) (at : ℕ) (room : at + w ≤ length records) (few : w ≤ widest_record) where
   -- a word that is not a literal's is a field's
   pub found_as : (x : Word) → WordCovers t kinds x i w → ((a n : ℕ) → x ≡ word.Literal a n → ⊥)
       → (f : Field ℕ) × (met_of t x ≡ Met.field f) × GivenAs records (kind_at kinds i) (field_gives f (kind_at kinds i) (take w (drop at records))) (found_in x (take w (drop at records)) at)

@@ -9,8 +9,8 @@ use Rattle.field_read.specs.TextRead.{text_readable, text_read}
 use Rattle.field_read.specs.declared.Number.{Number}
 use Rattle.format_words.specs.declared.Word.{Word}
 use Rattle.format_words.specs.declared.Word.TheVariants as word
-use Rattle.list_elements.specs.Elements.{Kind, text_length, zero_value, value_of, text_bytes, kinds_of}
-use Rattle.list_elements.specs.Limits.{most_elements, texts_length}
+use Rattle.list_elements.specs.Elements.{Kind, text_length, zero_value, value_of, text_bytes, kinds_of, most_elements}
+use Rattle.list_elements.specs.Limits.{texts_length}
 use Rattle.list_elements.specs.Contents as content
 use Rattle.list_elements.specs.Contents.{Content, content_kind}
 use Rattle.list_elements.specs.declared.Value.{Value}
@@ -18,6 +18,7 @@ use Rattle.list_elements.specs.declared.Value.TheVariants as value
 use Rattle.list_elements.specs.declared.Element.{Element}
 use Rattle.sheet_walk.specs.declared.Refusal.{Refusal}
 use Rattle.read_passes.specs.Given.{Gathered, accepted, refused, kind_at}
+use Rattle.sheet_walk.specs.Steps.{widest_record}
 
 -- ---- one field
 
@@ -65,12 +66,12 @@ field_inside records (value.Decimal d) = Unit
 field_inside records (value.Logical b) = Unit
 field_inside records (value.Text t) = t.start + t.len ≤ length records
 
--- and is less than 256 columns wide
+-- and is no wider than a record
 abbrev pub field_narrow : Value → Type 0
 field_narrow (value.Integer n) = Unit
 field_narrow (value.Decimal d) = Unit
 field_narrow (value.Logical b) = Unit
-field_narrow (value.Text t) = t.len < 256
+field_narrow (value.Text t) = t.len ≤ widest_record
 
 -- the content c was found, an element of the kind k being wanted
 pub record FoundAs (records : List ℕ) (k : Kind) (v : Value) (c : Content) : Type 0 where

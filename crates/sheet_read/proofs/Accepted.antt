@@ -5,8 +5,8 @@ use mathlib.Core.List.{List, map}
 use Prim.Native.Nat.{ℕ, ◌/◌, ◌≤◌}
 use native.Mathlib.Omega.{arith}
 use lib.ListN.{length, length-map}
-use Rattle.list_elements.specs.Elements.{kind_of, values}
-use Rattle.list_elements.specs.Limits.{most_elements, may_be_wanted}
+use Rattle.list_elements.specs.Elements.{kind_of, values, most_elements}
+use Rattle.list_elements.specs.Limits.{may_be_wanted}
 use Rattle.list_elements.specs.Contents.{Content, content_kind, texts_of}
 use Rattle.list_elements.proofs.GoodLaws.{values_most, check_good}
 use Rattle.list_elements.proofs.ContentLaws.{texts_length_lem}

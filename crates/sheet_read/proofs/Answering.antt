@@ -1,6 +1,6 @@
 -- What becomes of a call, from what holds of it: contents gathered on its walk are accepted, and the row that is met answers.
 -- Assumes nothing.
-use mathlib.Core.Path.{◌≡◌, ap, ◌∙◌}
+use mathlib.Core.Path.{◌≡◌, refl, ap, ◌∙◌}
 use mathlib.Core.List.{List}
 use Prim.Native.Nat.{ℕ, ◌/◌}
 use lib.ListN.{length}
@@ -12,6 +12,7 @@ use Rattle.sheet_walk.specs.Walk.{Trace}
 use Rattle.sheet_walk.specs.declared.Refusal.{Refusal}
 use Rattle.sheet_walk.specs.declared.Refusal.TheVariants.{FieldText}
 use Rattle.sheet_rows.specs.Rows.{refused, format_row, rows_before}
+use Rattle.sheet_rows.proofs.RowLaws.{row_answers}
 use Rattle.read_passes.specs.Given.{gathered}
 use Rattle.read_passes.proofs.GatheredLaws.{Refuses, gathers_so, refuses_so, readable_gathers, readable_refuses}
 use Rattle.sheet_walk.specs.Answers.{answer_number, answer_place}
@@ -39,12 +40,6 @@ module _ (c : Call) where
   walk_refuses : (xs : Items) (why : Refusal) → Walks c xs → RefusesOn c (walk_of c xs) why → becomes c ≡ refuses why
   walk_refuses xs why w r = past_rows xs w ∙ ap concluded (refuses_so r)
 
-  row_refuses : {why : Refusal}
-      → rows_before c.R (format_row (outcome c.format)) (wanted_rows (wanted_check c.wanted) (kinds_of c) (length c.area)) (length c.records / c.R) ≡ refused why
-      → becomes c ≡ refuses why
-  unfolding reading_of
-  row_refuses e = rw e
-
   -- ---- what it answers
 
   -- the number k and the place p
@@ -55,17 +50,15 @@ module _ (c : Call) where
   answers_as e = (ap (λ r. answer_number (answer_of r)) e, ap (λ r. answer_place (answer_of r)) e)
 
   -- a row before the walk
-  row_answers : {k p : ℕ} → RowBefore c k p → AnswersSo k p
-  row_answers {k} {p} a =
-      let r = (rows_said c).answers_only k p a in
-      let s = answers_as (row_refuses r.is) in
-      (s.0 ∙ r.number_is, s.1 ∙ r.place_is)
+  row_before : {k p : ℕ} → RowBefore c k p → AnswersSo k p
+  unfolding reading_of
+  row_before {k} {p} a = row_answers refuses answer_of (λ why. refl) _ ((rows_said c).answers_only k p a)
 
 -- the row that is met answers, and no other
 pub meets_only : (c : Call) {k p : ℕ} → AnsweredBy c k p → AnswersSo c k p
 meets_only c (AnsweredBy.acceptable {t} {n} a) =
     let g = readable_gathers {R = c.R} {kinds = kinds_of c} {records = c.records} a.ends a.readable in
     answers_as c (passes c t g.0 n a g.1)
-meets_only c (AnsweredBy.row_before a) = row_answers c a
+meets_only c (AnsweredBy.row_before a) = row_before c a
 meets_only c (AnsweredBy.refused_walk {xs} {why} w s all) = answers_as c (walk_refuses c xs why w (readable_refuses s all))
 meets_only c (AnsweredBy.unreadable {xs} {i} w u) = answers_as c (walk_refuses c xs (FieldText i) w (unreadable_refuses c u))

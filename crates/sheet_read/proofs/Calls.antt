@@ -13,7 +13,7 @@ use Rattle.format_grammar.specs.Check.{outcome}
 use Rattle.format_grammar.proofs.Promises.{accepts_exactly}
 use Rattle.list_elements.specs.Contents.{Content}
 use Rattle.list_elements.specs.Limits.{ListCheck, good, wanted_check, texts_length}
-use Rattle.sheet_walk.specs.Steps.{Placement}
+use Rattle.sheet_walk.specs.Steps.{Placement, records_in}
 use Rattle.sheet_walk.specs.Promises.{StopsWith}
 use Rattle.sheet_walk.specs.Walk.{Trace, put}
 use Rattle.sheet_walk.specs.Refusals.{refusal_number, refusal_place}
@@ -21,9 +21,9 @@ use Rattle.sheet_walk.specs.declared.Refusal.{Refusal}
 use Rattle.sheet_walk.specs.declared.Refusal.TheVariants.{Element, TextArea, FieldText}
 use Rattle.sheet_walk.proofs.Covering.{in-put, in-stopped}
 use Rattle.sheet_rows.specs.Rows as rows
-use Rattle.sheet_rows.specs.Rows.{Row, passed, then, in_order, format_row, rows_before, after_rows, records_in, walk_under}
+use Rattle.sheet_rows.specs.Rows.{Row, passed, then, in_order, format_row, rows_before, after_rows, walk_under}
 use Rattle.sheet_rows.specs.Promises.{ElementRefused, RowTold, RefusedWith, Says}
-use Rattle.sheet_rows.proofs.RowLaws.{rows_say, walk_under_lem}
+use Rattle.sheet_rows.proofs.RowLaws.{text_rows_say, walk_under_lem}
 use Rattle.read_passes.specs.Given.{Gathered, gathered}
 use Rattle.read_passes.proofs.GatheredLaws.{Gathers, Refuses, Told, told, AllReadable}
 use Rattle.sheet_read.specs.Reading.{Reading, accepts, refuses, concluded, wanted_rows, reading_of}
@@ -103,7 +103,7 @@ wanted_says c =
 pub rows_said : (c : Call)
     → Says (rows_before c.R (format_row (outcome c.format)) (wanted_rows (wanted_check c.wanted) (kinds_of c) (length c.area)) (length c.records / c.R)) ((xs : Items) × Walks c xs) (RowBefore c)
 rows_said c =
-    rows_say c.R c.format (wanted_rows (wanted_check c.wanted) (kinds_of c) (length c.area)) (WantedPass c) (WantedAnswers c) (length c.records / c.R) (wanted_says c)
+    text_rows_say c.R c.format (wanted_rows (wanted_check c.wanted) (kinds_of c) (length c.area)) (WantedPass c) (WantedAnswers c) (length c.records / c.R) (wanted_says c)
 
 -- the walk
 pub walk_is : (c : Call) (xs : Items) → Walks c xs → walk_under c.format (kinds_of c) (records_in c.R (length c.records)) ≡ walk_of c xs

@@ -9,8 +9,8 @@ use lib.Seq.{take-append_seam, drop-append_seam}
 use Rattle.buffer.specs.Splice.{splice}
 use Rattle.buffer.proofs.SpliceBytes.{length_splice}
 use Rattle.format_items.specs.Items.{Items}
-use Rattle.list_elements.specs.Elements.{kind_of, values}
-use Rattle.list_elements.specs.Limits.{most_elements, may_be_wanted, first_failing, over_limit, check_values, wanted_check}
+use Rattle.list_elements.specs.Elements.{kind_of, values, most_elements}
+use Rattle.list_elements.specs.Limits.{may_be_wanted, first_failing, over_limit, check_values, wanted_check}
 use Rattle.list_elements.specs.Contents.{Content, content_kind, texts_of, laid_texts, values_from, list_of, bytes_of}
 use Rattle.list_elements.specs.declared.Value.{Value}
 use Rattle.list_elements.specs.declared.List as carried

@@ -1,6 +1,6 @@
 -- What the inner functions of reading do, from what their callees say.
 -- Assumes nothing.
-use Rattle.std.proofs.Common.{Bor, ◌≡◌, refl, sym, ◌∙◌, true, false, List, ℕ, ◌/◌, length}
+use Rattle.std.proofs.Common.{Bor, ◌≡◌, refl, sym, ap, ◌∙◌, true, false, List, ℕ, ◌/◌, length}
 use Rattle.std.specs.Prelude.{leb, Result, Ok, Err}
 use Rattle.format_items.specs.Items.{Items}
 use Rattle.format_grammar.specs.Check as formats
@@ -11,13 +11,13 @@ use Rattle.list_elements.specs.Contents.{Content}
 use Rattle.list_elements.specs.declared.BadElement.{BadElement}
 use Rattle.list_elements.specs.declared.Element.{Element}
 use Rattle.list_elements.specs.Elements as elements
-use Rattle.sheet_walk.specs.Steps.{width_right}
+use Rattle.sheet_walk.specs.Steps.{width_right, records_in}
 use Rattle.sheet_walk.specs.Promises.{WidthRight}
 use Rattle.sheet_walk.specs.Walk.{sheet, walk}
 use Rattle.sheet_walk.specs.declared.Refusal.{Refusal}
 use Rattle.sheet_walk.specs.declared.Refusal.TheVariants as refusal
 use Rattle.sheet_rows.specs.Rows as rows
-use Rattle.sheet_rows.specs.Rows.{Row, in_order, format_row, rows_before, records_in}
+use Rattle.sheet_rows.specs.Rows.{Row, in_order, format_row, rows_before}
 use Rattle.sheet_rows.proofs.RowLaws as row
 use Rattle.read_passes.specs.Given.{Gathered, accepted, refused, gathered}
 use Rattle.read_passes.specs.Passes as passes
@@ -75,24 +75,24 @@ module _ (R : ℕ) (text : List ℕ) (check : ListCheck) (kinds : List Kind) (ro
   row_refuses e = did_refused (rw e)
 
   pub width_refuses : width_right R ≡ false → {found : List Element} → Did it kinds records (Err refusal.RecordWidth) found
-  width_refuses e = row_refuses (row.width_refuses R text wanted (length records / R) e)
+  width_refuses e = row_refuses (row.width_refuses R (format_row (formats.outcome text)) wanted (length records / R) e)
 
   module _ (w : WidthRight R) where
     pub format_refuses : {why : FormatRefusal} → formats.outcome text ≡ formats.refused why
         → {found : List Element} → Did it kinds records (Err (refusal.Format why)) found
-    format_refuses e = row_refuses (row.format_refuses R text wanted (length records / R) w e)
+    format_refuses e = row_refuses (row.format_refuses R (format_row (formats.outcome text)) wanted (length records / R) w (ap format_row e))
 
     module _ {xs : Items} (a : formats.outcome text ≡ formats.accepted xs) where
       pub list_refuses : {p : ℕ} → check ≡ bad p → {found : List Element} → Did it kinds records (Err (refusal.Element p)) found
-      list_refuses e = row_refuses (row.list_refuses R text wanted (length records / R) w a (element_refuses check kinds room e))
+      list_refuses e = row_refuses (row.list_refuses R (format_row (formats.outcome text)) wanted (length records / R) w (ap format_row a) (element_refuses check kinds room e))
 
       module _ (g : check ≡ good) where
         pub no_room : leb (texts_length kinds) room ≡ false → {found : List Element} → Did it kinds records (Err refusal.TextArea) found
-        no_room f = row_refuses (row.list_refuses R text wanted (length records / R) w a (area_refuses check kinds room g f))
+        no_room f = row_refuses (row.list_refuses R (format_row (formats.outcome text)) wanted (length records / R) w (ap format_row a) (area_refuses check kinds room g f))
 
         module _ (h : leb (texts_length kinds) room ≡ true) where
           pub no_record : length records / R ≡ 0 → {found : List Element} → Did it kinds records (Err refusal.NoRecord) found
-          no_record n = row_refuses (row.record-refuses R text wanted (length records / R) w a (wanted_passed check kinds room g h) n)
+          no_record n = row_refuses (row.record-refuses R (format_row (formats.outcome text)) wanted (length records / R) w (ap format_row a) (wanted_passed check kinds room g h) n)
 
           -- the walk, under the sheet of the format
           pub walked : (length records / R ≡ 0 → ⊥) → {r : Result ℕ Refusal} {found : List Element}
@@ -103,7 +103,7 @@ module _ (R : ℕ) (text : List ℕ) (check : ListCheck) (kinds : List Kind) (ro
               let G = gathered R kinds records (walk (sheet xs kinds (records_in R (length records)))) in
               let q : reading_of R text check kinds room records ≡ concluded G =
               rw (
-                row.all_passed R text wanted (length records / R) w a (wanted_passed check kinds room g h) n,
+                row.all_passed R (format_row (formats.outcome text)) wanted (length records / R) w (ap format_row a) (wanted_passed check kinds room g h) n,
                 row.walk_under_lem text xs kinds (records_in R (length records)) a,
               ) in
               rw q (record { ends = e ∙ concluded_ending G; held = λ cs m z. f cs m (concluded_accepts G z) })

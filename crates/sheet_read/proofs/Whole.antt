@@ -4,8 +4,8 @@ use Rattle.std.proofs.Common.{◌≡◌, refl, sym, ap, ◌∙◌, false, List, 
 use Rattle.std.specs.Prelude.{Result, Ok, Err}
 use Rattle.std.specs.List.{take-map}
 use Rattle.std.proofs.lemmas.List.{length-map}
-use Rattle.list_elements.specs.Elements.{value_of, kind_of, values}
-use Rattle.list_elements.specs.Limits.{most_elements, may_be_wanted, wanted_check}
+use Rattle.list_elements.specs.Elements.{value_of, kind_of, values, most_elements}
+use Rattle.list_elements.specs.Limits.{may_be_wanted, wanted_check}
 use Rattle.list_elements.specs.Checked.{CheckedAs}
 use Rattle.list_elements.proofs.GoodLaws.{bad_not_good, check_good}
 use lib.ListN.{length-take}
@@ -19,7 +19,7 @@ use Rattle.sheet_walk.specs.declared.Refusal.{Refusal}
 use Rattle.sheet_walk.specs.declared.Refusal.TheVariants.{RecordWidth}
 use Rattle.sheet_walk.specs.Steps.{width_right}
 use Rattle.sheet_read.proofs.ReadLaws.{width_refuses}
-use Rattle.sheet_rows.proofs.Loads as loads
+use Rattle.list_elements.proofs.ContentLaws.{kinds_are}
 use Rattle.read_passes.specs.Passes.{Found}
 use Rattle.sheet_walk.specs.Answers.{answer_number, answer_place, answer_records, answer_starred}
 use Rattle.sheet_read.specs.Reading.{Reading, accepts, refuses, reading, answer_of, answer_in, list_in, list_given, area_of, read_answer, read_list, read_area, reading_number, reading_place, reading_records, reading_starred}
@@ -56,7 +56,7 @@ module _ (c : Call) where
 
   pub kinds_wanted : (es : List Element) → es ≡ take c.wanted.count c.wanted.elements → elements.kinds_of es ≡ kinds_of c
   unfolding values
-  kinds_wanted es e = loads.kinds_are es ∙ ap (map kind_of) (ap (map value_of) e ∙ sym (take-map value_of c.wanted.count c.wanted.elements))
+  kinds_wanted es e = kinds_are es ∙ ap (map kind_of) (ap (map value_of) e ∙ sym (take-map value_of c.wanted.count c.wanted.elements))
 
   module _ (x : Result (Bor (List Element)) BadElement) (is : CheckedAs may_be_wanted c.wanted x) (r : Result ℕ Refusal) (found : List Element) (did : ReadText c.R c.format x (length c.area) c.records r found) where
     did_so : Did (becomes c) (kinds_of c) c.records r found

@@ -2,20 +2,20 @@
 -- Assumes nothing.
 use Rattle.std.specs.Prelude.{◌≡◌, ◌↔◌, List, map, ℕ, ◌/◌, ◌<◌, ◌≤◌, length, take, drop, get_or, pos}
 use Rattle.format_items.specs.Items.{Field, Items}
-use Rattle.list_elements.specs.Elements.{Kind, kind_of, zero_value, empty_list, values}
-use Rattle.list_elements.specs.Limits.{good, most_elements, wanted_check, texts_length}
+use Rattle.format_grammar.specs.Promises.{Acceptable}
+use Rattle.list_elements.specs.Elements.{Kind, kind_of, zero_value, empty_list, values, most_elements}
+use Rattle.list_elements.specs.Limits.{good, wanted_check, texts_length}
 use Rattle.list_elements.specs.Contents.{Content, integer, content_of, texts_of, values_from, element_of}
 use Rattle.list_elements.specs.declared.Element.{Element}
 use Rattle.list_elements.specs.declared.List as carried
 use Rattle.sheet_walk.specs.Refusals.{refusal_number, refusal_place}
-use Rattle.sheet_walk.specs.Steps.{element, Placement}
+use Rattle.sheet_walk.specs.Steps.{element, Placement, records_in}
 use Rattle.sheet_walk.specs.Walk.{Trace, put, sheet, walk}
 use Rattle.sheet_walk.specs.Columns.{In}
 use Rattle.sheet_walk.specs.Laid.{columns}
 use Rattle.sheet_walk.specs.Promises.{EndsWith, StopsWith, elements_put, numbers_from}
 use Rattle.sheet_walk.specs.declared.Refusal.{Refusal}
-use Rattle.sheet_rows.specs.Rows.{records_in}
-use Rattle.sheet_rows.specs.Promises.{RowsPassed, RowAnswers, ElementRefused}
+use Rattle.sheet_rows.specs.Promises.{RowsPassed, RowAnswers, FormatRefused, ElementRefused}
 use Rattle.read_passes.specs.Given.{Given, gives, nothing, field_gives, kind_at}
 use Rattle.sheet_walk.specs.Answers.{Answer, answer_number, answer_place, answer_records, answer_starred}
 use Rattle.sheet_read.specs.Reading.{Reading, accepts, refuses, reading, read_answer, read_list, read_area}
@@ -73,11 +73,11 @@ pub data WantedAnswers (c : Call) : ℕ → ℕ → Type 0 where
 
 -- every row before the walk is passed, the format's items being xs
 abbrev pub Walks : Call → Items → Type 0
-Walks c xs = RowsPassed c.R c.format (WantedPass c) (length c.records / c.R) xs
+Walks c xs = RowsPassed c.R (Acceptable c.format xs) (WantedPass c) (length c.records / c.R)
 
 -- one of them answers
 abbrev pub RowBefore : Call → ℕ → ℕ → Type 0
-RowBefore c = RowAnswers c.R c.format (WantedPass c) (WantedAnswers c) (length c.records / c.R)
+RowBefore c = RowAnswers c.R ((xs : Items) × Acceptable c.format xs) (FormatRefused c.format) (WantedPass c) (WantedAnswers c) (length c.records / c.R)
 
 -- the call's walk, under the items xs
 abbrev pub walk_of : Call → Items → Trace

@@ -12,9 +12,10 @@ use Rattle.sheet_walk.specs.Refusals.{refusal_number, refusal_place}
 use Rattle.sheet_walk.specs.declared.Refusal.{Refusal}
 use Rattle.sheet_walk.specs.declared.Refusal.TheVariants.{TextArea}
 use Rattle.sheet_rows.specs.Rows as rows
-use Rattle.sheet_rows.specs.Rows.{Row, passed, in_order, format_row, element_row, rows_before, after_rows, records_in, walk_under}
+use Rattle.sheet_rows.specs.Rows.{Row, passed, in_order, format_row, element_row, rows_before, after_rows, walk_under}
 use Rattle.read_passes.specs.Given.{Gathered, accepted, refused, gathered}
 use Rattle.sheet_read.specs.declared.SheetRead.{SheetRead}
+use Rattle.sheet_walk.specs.Steps.{records_in}
 
 -- accepted, with what the elements hold, in list order, and the number of records reached, or refused
 pub data Reading : Type 0 where

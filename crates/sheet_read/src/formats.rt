@@ -10,7 +10,7 @@ use list_elements::{BadElement, Element};
 use read_passes::reading::read_pass;
 use sheet_walk::records::Records;
 use sheet_walk::width::Width;
-use sheet_walk::{Refusal, WIDEST_RECORD};
+use sheet_walk::Refusal;
 
 // Under a format that was loaded, if the wanted elements are good, their texts have room and there is a record: rows 6, 13 and
 // 9, and the walk. Not inlined: compiled into the closure below, it takes up to 9 of 100 instructions more.
@@ -30,15 +30,7 @@ fn read_run(
     if !texts_fit(wanted, room) {
         return Err(Refusal::TextArea);
     }
-    let count = records.len() / width.columns;
-    if count == 0 {
-        return Err(Refusal::NoRecord);
-    }
-    // The least of both is the width; so the compiler knows that it is small, and a field takes less.
-    let lent = Records {
-        width: width.columns.min(WIDEST_RECORD),
-        count,
-    };
+    let lent = Records::lent(width, records)?;
     read_pass(run, wanted, lent, records, found)
 }
 

@@ -13,20 +13,25 @@ use Rattle.sheet_rows.specs.Rows.{Row, passed, refused, element_row, format_row,
 
 -- ---- which row answers, with its number and its place: 'Rows apply in this order down to the first walk row'
 
--- every row before the walk is passed: R is right, the format is accepted as the items xs, the list's rows are passed
--- (`Passes`), and there are n records, at least one
-pub record RowsPassed (R : ℕ) (text : List ℕ) (Passes : Type 0) (n : ℕ) (xs : Items) : Type 0 where
+-- every row before the walk is passed: R is right, the format's rows and the list's are passed (`FormatPasses`, `ListPasses`), and
+-- there are n records, at least one
+pub record RowsPassed (R : ℕ) (FormatPasses ListPasses : Type 0) (n : ℕ) : Type 0 where
   pub width : WidthRight R
-  pub format : Acceptable text xs
-  pub list : Passes
+  pub format : FormatPasses
+  pub list : ListPasses
   pub some_record : 0 < n
 
--- a row before the walk answers, those before it being passed; `Answers` says which of the list's rows does
-pub data RowAnswers (R : ℕ) (text : List ℕ) (Passes : Type 0) (Answers : ℕ → ℕ → Type 0) (n : ℕ) : ℕ → ℕ → Type 0 where
-  wrong_width : (WidthRight R → ⊥) → RowAnswers R text Passes Answers n 1 0
-  wrong_format_lem : {k p : ℕ} → WidthRight R → (k ≡ 0 → ⊥) → grammar.AnsweredBy text k p → RowAnswers R text Passes Answers n k p
-  wrong_list : {xs : Items} {k p : ℕ} → WidthRight R → Acceptable text xs → Answers k p → RowAnswers R text Passes Answers n k p
-  no_record : {xs : Items} → WidthRight R → Acceptable text xs → Passes → n ≡ 0 → RowAnswers R text Passes Answers n 9 0
+-- a row before the walk answers, those before it being passed; `FormatAnswers` and `ListAnswers` say which of the format's rows and
+-- of the list's does
+pub data RowAnswers (R : ℕ) (FormatPasses : Type 0) (FormatAnswers : ℕ → ℕ → Type 0) (ListPasses : Type 0) (ListAnswers : ℕ → ℕ → Type 0) (n : ℕ) : ℕ → ℕ → Type 0 where
+  wrong_width : (WidthRight R → ⊥) → RowAnswers R FormatPasses FormatAnswers ListPasses ListAnswers n 1 0
+  wrong_format : {k p : ℕ} → WidthRight R → FormatAnswers k p → RowAnswers R FormatPasses FormatAnswers ListPasses ListAnswers n k p
+  wrong_list : {k p : ℕ} → WidthRight R → FormatPasses → ListAnswers k p → RowAnswers R FormatPasses FormatAnswers ListPasses ListAnswers n k p
+  no_record : WidthRight R → FormatPasses → ListPasses → n ≡ 0 → RowAnswers R FormatPasses FormatAnswers ListPasses ListAnswers n 9 0
+
+-- one of rows 2 to 5 answers
+pub data FormatRefused (text : List ℕ) : ℕ → ℕ → Type 0 where
+  bad_format : {k p : ℕ} → (k ≡ 0 → ⊥) → grammar.AnsweredBy text k p → FormatRefused text k p
 
 -- row 6 answers
 pub data ElementRefused (check : ListCheck) : ℕ → ℕ → Type 0 where
@@ -53,12 +58,23 @@ pub record Says (row : Row) (Passes : Type 0) (Answers : ℕ → ℕ → Type 0)
   pub passes_only : Passes → row ≡ passed
   pub answers_only : (k p : ℕ) → Answers k p → RefusedWith row k p
 
+-- rows 2 to 5, by the format check
+abbrev pub FormatRowSays : Type 0
+FormatRowSays = (text : List ℕ) → Says (format_row (outcome text)) ((xs : Items) × Acceptable text xs) (FormatRefused text)
+
 -- row 6, by the list's check
 abbrev pub ElementRowSays : Type 0
 ElementRowSays = (check : ListCheck) → Says (element_row check) (check ≡ good) (ElementRefused check)
 
--- the rows before the walk, whatever the list's rows are
+-- the rows before the walk, whatever the format's rows and the list's are
 abbrev pub RowsSay : Type 1
 RowsSay =
-    (R : ℕ) (text : List ℕ) (list : Row) (Passes : Type 0) (Answers : ℕ → ℕ → Type 0) (n : ℕ) → Says list Passes Answers
-    → Says (rows_before R (format_row (outcome text)) list n) ((xs : Items) × RowsPassed R text Passes n xs) (RowAnswers R text Passes Answers n)
+    (R : ℕ) (format list : Row) (FP : Type 0) (FA : ℕ → ℕ → Type 0) (LP : Type 0) (LA : ℕ → ℕ → Type 0) (n : ℕ) → Says format FP FA → Says list LP LA
+    → Says (rows_before R format list n) (RowsPassed R FP LP n) (RowAnswers R FP FA LP LA n)
+
+-- under a format's text, accepted as some items
+abbrev pub TextRowsSay : Type 1
+TextRowsSay =
+    (R : ℕ) (text : List ℕ) (list : Row) (LP : Type 0) (LA : ℕ → ℕ → Type 0) (n : ℕ) → Says list LP LA
+    → Says (rows_before R (format_row (outcome text)) list n) ((xs : Items) × RowsPassed R (Acceptable text xs) LP n)
+    (RowAnswers R ((xs : Items) × Acceptable text xs) (FormatRefused text) LP LA n)

@@ -51,10 +51,6 @@ abbrev pub after_rows : {A : Type 0} → (Refusal → A) → Row → A → A
 after_rows refuses passed walked = walked
 after_rows refuses (refused why) walked = refuses why
 
--- 'A lent buffer of B bytes holds B / R whole records, rounded down.'
-abbrev pub records_in : ℕ → ℕ → Records
-records_in R B = record { width = R; count = B / R }
-
 -- the walk under a format's text, for elements of these kinds. (Of a refused format there are no items; the rows before refuse it,
 -- so that this walk is not used.)
 abbrev pub walk_under : List ℕ → List Kind → Records → Trace

@@ -48,13 +48,6 @@ did s before l w e f g a b =
     let x : _ = w ∙ ap width_on e in
     record { answers = a ∙ rw (x, f, g, l); bytes = b ∙ rw (x, f, g, l); is = b ∙ rw (x, f, g) }
 
--- a first line that is no width is refused as the width 0
-pub no_width : (s before : List ℕ) → length before ≡ record_buffer → input_width s ≡ 0 → Did s before (Err refusal.RecordWidth) before
-no_width s before l e =
-    let right : width_right (input_width s) ≡ false = rw e in
-    let w = width_refuses (input_width s) (input_format s) (line_check (input_list s)) {area = input_list s} {vs = line_values (input_list s)} {before = before} right in
-    record { answers = rw l at w.answers; bytes = rw l at w.bytes; is = w.bytes }
-
 -- ---- a refused input
 
 refused_writing : (vs : List Value) (w : Writing) {why : Refusal} → Err why ≡ answer_of vs w → w ≡ refuses why

@@ -11,8 +11,8 @@ use Rattle.std.specs.List.{take-map}
 use Rattle.std.specs.Prelude.{Result, Ok, Err, All}
 use Rattle.format_grammar.specs.Check.{refused, outcome}
 use Rattle.format_items.specs.declared.FormatRefusal.{FormatRefusal}
-use Rattle.list_elements.specs.Elements.{kind_of, value_of, values}
-use Rattle.list_elements.specs.Limits.{ListCheck, good, bad, most_elements, within_limits, list_check}
+use Rattle.list_elements.specs.Elements.{kind_of, value_of, values, most_elements}
+use Rattle.list_elements.specs.Limits.{ListCheck, good, bad, within_limits, list_check}
 use Rattle.list_elements.proofs.GoodLaws.{check_good, good_all}
 use Rattle.list_elements.specs.declared.BadElement.{BadElement}
 use Rattle.list_elements.specs.declared.Element.{Element}
@@ -24,7 +24,7 @@ use Rattle.list_elements.specs.declared.List as carried
 use Rattle.sheet_walk.specs.declared.Refusal.{Refusal}
 use Rattle.sheet_walk.specs.declared.Refusal.TheVariants as refusal
 use Rattle.sheet_walk.specs.declared.Refusal.TheVariants.{RecordWidth, Format}
-use Rattle.sheet_rows.specs.Rows.{Row, format_row, element_row, after_rows, records_in, walk_under}
+use Rattle.sheet_rows.specs.Rows.{Row, format_row, element_row, after_rows, walk_under}
 use Rattle.sheet_rows.proofs.RowLaws as row
 use Rattle.sheet_rows.proofs.RowLaws.{wrong_format, wrong_format_lem, wrong_format_refused, bad_list, bad_same, after_refused}
 use Rattle.sheet_write.specs.Writing.{Writing, accepts, refuses, walked, writing_of, writing, answer_of}
@@ -34,8 +34,9 @@ use Rattle.sheet_write.proofs.Promises.{accepts_exactly, records_reached}
 use Rattle.sheet_walk.specs.Walk.{Trace}
 use Rattle.sheet_walk.specs.Answers.{Answer, answer_records}
 use Rattle.list_text.specs.ListText.{line_values, line_check, list_read, line_read}
-use Rattle.sheet_text.specs.FromListText.{writing_from, answer_from, listed_from}
+use Rattle.sheet_text.specs.FromListText.{writing_from, answer_from}
 use Rattle.sheet_text.specs.Promises.{WritingFromIs}
+use Rattle.sheet_walk.specs.Steps.{records_in}
 
 -- ---- the list of a list text
 
@@ -112,12 +113,6 @@ module _ (text : List ℕ) where
     pub read_values : {es : List Element} → es ≡ take l.count l.elements → map value_of es ≡ line_values text
     unfolding values
     read_values {es} is = ap (map value_of) is ∙ sym (take-map value_of l.count l.elements) ∙ ap values (read_ok e).1 ∙ values_list (line_values text)
-
--- what was written for its elements
-pub as_text : {R : ℕ} (format text : List ℕ) {before : List ℕ} {a : Answer} {after : List ℕ} (x : Result Listed BadElement) → listed_from text x
-    → WroteText R format x before a after → Wrote R text (line_values text) before (writing_from R format text (length before)) a after
-as_text format text (Ok x) p w = rw (p.0, ← p.1, ← p.2) w
-as_text format text (Err e) p w = rw p (w text (line_values text))
 
 -- ---- an accepted writing
 

@@ -1,12 +1,8 @@
 -- Document 01: writing, 'the list as list text', which is its own text area. The outcome and the buffer afterwards, for every
 -- record width R, format, list text and buffer.
 -- Assumes nothing.
-use Rattle.std.specs.Prelude.{◌≡◌, List, ℕ, length, Result, Ok, Err}
-use Rattle.list_elements.specs.Limits.{good}
-use Rattle.list_elements.specs.declared.BadElement.{BadElement}
-use Rattle.list_elements.specs.declared.listed.Listed.{Listed}
+use Rattle.std.specs.Prelude.{List, ℕ, length}
 use Rattle.sheet_walk.specs.Answers.{Answer}
-use Rattle.write_passes.specs.Passes.{values_in}
 use Rattle.sheet_write.specs.Writing.{Writing, writing_of, answer_of, buffer_of}
 use Rattle.list_text.specs.ListText.{line_values, line_check}
 
@@ -21,8 +17,3 @@ answer_from R format text buffer = answer_of (line_values text) (writing_from R 
 -- the buffer afterwards
 abbrev pub buffer_from : ℕ → List ℕ → List ℕ → List ℕ → List ℕ
 buffer_from R format text buffer = buffer_of R text (line_values text) buffer (writing_from R format text (length buffer))
-
--- the elements of a list text, or its bad element, as the code has them
-abbrev pub listed_from : List ℕ → Result Listed BadElement → Type 0
-listed_from text (Ok x) = (line_check text ≡ good) × (values_in x ≡ line_values text) × (x.area.now ≡ text)
-listed_from text (Err e) = line_check text ≡ Err e

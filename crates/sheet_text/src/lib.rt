@@ -11,7 +11,7 @@ pub mod writing;
 pub const RECORD_BUFFER: usize = 65536;
 
 // Room for every output: as many line feeds as bytes of records at most, and a last line.
-pub const OUTPUT: usize = 131200;
+pub const OUTPUT: usize = 2 * RECORD_BUFFER + 128;
 
 // As many bytes of its input as the program keeps: of a longer one the rest does not matter (`sheet::sheet` promises it).
 pub const INPUT: usize = 8192;

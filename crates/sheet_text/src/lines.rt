@@ -1,7 +1,8 @@
 // The last line of the output.
-ghost use Rattle.std.specs.Prelude.{◌≡◌, ◌+◌, ◌≤◌, List, ℕ, [], ◌++◌, length, take};
+ghost use Rattle.std.specs.Prelude.{◌≡◌, ◌+◌, ◌*◌, ◌≤◌, List, ℕ, [], ◌++◌, length, take};
 ghost use Rattle.number.specs.Digits.{digits_of};
 ghost use Rattle.sheet_text.specs.Output.{decimal_digits, counts_line, refused_line};
+ghost use Rattle.sheet_text.specs.declared.lines.TheConstants.{LONGEST_LINE};
 
 use number::MOST_DIGITS;
 use number::digits::digit_count;
@@ -9,10 +10,13 @@ use number::powers::power_of_ten;
 use number::put::put_digits;
 use std::marker::Model;
 
-// A line with its line feed: at most 96 bytes. (Fixed memory, so an array and a length, and no `Vec`.)
+// The bytes of a line, its line feed included.
+pub const LONGEST_LINE: usize = 96;
+
+// A line with its line feed. (Fixed memory, so an array and a length, and no `Vec`.)
 #[derive(Drop)]
 pub struct Line {
-    bytes: [u8; 96],
+    bytes: [u8; LONGEST_LINE],
     len: usize,
 }
 
@@ -21,7 +25,7 @@ impl Model for Line {
 
     ghost view = { λ l. take l.len l.bytes };
 
-    ghost invariant = { λ l. l.len ≤ 96 };
+    ghost invariant = { λ l. l.len ≤ LONGEST_LINE };
 }
 
 impl Line {
@@ -30,13 +34,13 @@ impl Line {
         ensures { result ≡ [] }
     {
         Line {
-            bytes: [0; 96],
+            bytes: [0; LONGEST_LINE],
             len: 0,
         }
     }
 
     fn push(&mut self, bytes: &[u8])
-        requires { length self.old + length bytes.now ≤ 96 }
+        requires { length self.old + length bytes.now ≤ LONGEST_LINE }
         ensures { self.new ≡ self.old ++ bytes.now }
     {
         let end = self.len + bytes.len();
@@ -46,7 +50,7 @@ impl Line {
 
     // The last k digits of n.
     fn push_digits(&mut self, k: usize, n: u64)
-        requires { length self.old + k ≤ 96 }
+        requires { length self.old + k ≤ LONGEST_LINE }
         ensures digits { self.new ≡ self.old ++ digits_of k n }
         ensures len { length self.new ≡ length self.old + k }
     {
@@ -58,9 +62,9 @@ impl Line {
     // The digits of n with no leading zero. The last 18 of more than 18 are put by themselves, since no more are counted. (Not by
     // `write!`: that answers a `Result`, and nothing says that it never fails.)
     fn push_number(&mut self, n: u64)
-        requires { length self.old + 36 ≤ 96 }
+        requires { length self.old + 2 * MOST_DIGITS ≤ LONGEST_LINE }
         ensures digits { self.new ≡ self.old ++ decimal_digits n }
-        ensures few { length self.new ≤ length self.old + 36 }
+        ensures few { length self.new ≤ length self.old + 2 * MOST_DIGITS }
     {
         let high = n / power_of_ten(MOST_DIGITS);
         if 0 < high {
@@ -99,7 +103,7 @@ impl Line {
 
     pub fn as_bytes(&self) -> &[u8]
         ensures bytes { result.now ≡ self.now }
-        ensures few { length result.now ≤ 96 }
+        ensures few { length result.now ≤ LONGEST_LINE }
     {
         &self.bytes[..self.len]
     }

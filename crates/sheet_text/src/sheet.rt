@@ -7,7 +7,7 @@ ghost use Rattle.sheet_text.specs.Input.{input_width, input_format, input_list};
 ghost use Rattle.sheet_text.specs.Output.{refused_line};
 ghost use Rattle.sheet_text.specs.SheetOutput.{sheet_output};
 
-use crate::lines::Line;
+use crate::lines::{LONGEST_LINE, Line};
 use crate::records::put_records;
 use crate::width::read_width;
 use crate::writing::write_list_text;
@@ -17,10 +17,10 @@ use sheet_walk::{Counts, Refusal};
 
 // Puts a line from the offset `at` on, and answers the offset after it. (Offsets in a buffer of the caller's: fixed memory.)
 fn put_line(output: &mut [u8; OUTPUT], at: usize, line: &Line) -> usize
-    requires { at + 96 ≤ length output.old }
+    requires { at + LONGEST_LINE ≤ length output.old }
     ensures line { output.new ≡ splice output.old at line.now }
     ensures end { result ≡ at + length line.now }
-    ensures few { result ≤ at + 96 }
+    ensures few { result ≤ at + LONGEST_LINE }
 {
     let bytes = line.as_bytes();
     let end = at + bytes.len();
@@ -39,16 +39,14 @@ fn refusal_line(refusal: Refusal) -> Line
 // written into a buffer of their own first. The first INPUT bytes of a longer input have the output of the whole.
 pub fn sheet(input: &[u8], records: &mut [u8; RECORD_BUFFER], output: &mut [u8; OUTPUT]) -> usize
     ensures length { result ≡ length (sheet_output input.now) }
-    ensures room { result ≤ 131200 }
+    ensures room { result ≤ OUTPUT }
     ensures output { output.new ≡ splice output.old 0 (sheet_output input.now) }
     ensures records { records.new ≡ buffer_from (input_width input.now) (input_format input.now) (input_list input.now) records.old }
     ensures whole { (whole : List ℕ) → input.now ≡ take INPUT whole → sheet_output input.now ≡ sheet_output whole }
 {
     let (first, rest) = split_line(input);
     let (format, list) = split_line(rest);
-    let Some(width) = read_width(first) else {
-        return put_line(output, 0, &refusal_line(Refusal::RecordWidth));
-    };
+    let width = read_width(first);
     match write_list_text(width, format, list, records) {
         Err(refusal) => put_line(output, 0, &refusal_line(refusal)),
         Ok(

@@ -1,9 +1,10 @@
 // Writing, the list as list text.
 ghost use Rattle.std.specs.Prelude.{◌≡◌, length};
-ghost use Rattle.list_text.specs.ListText.{line_values, line_read};
+ghost use Rattle.list_text.specs.ListText.{line_check, line_values, line_read};
 ghost use Rattle.sheet_walk.specs.Answers.{answer_number, answer_place, answer_records, answer_starred};
 ghost use Rattle.sheet_write.specs.Writing.{writing_number, writing_place, writing_records, writing_starred};
-ghost use Rattle.sheet_text.specs.FromListText.{writing_from, answer_from, buffer_from, listed_from};
+ghost use Rattle.list_elements.specs.Checked.{listed_as};
+ghost use Rattle.sheet_text.specs.FromListText.{writing_from, answer_from, buffer_from};
 
 use list_elements::listed::Listed;
 use list_elements::{BadElement, List};
@@ -15,7 +16,7 @@ use sheet_write::formats::write_under;
 // The elements of a list that was read, which are within their limits, the text being their area.
 fn listed<'a>(read: &'a Result<List, BadElement>, text: &'a [u8]) -> Result<Listed<'a>, BadElement>
     requires { read.now ≡ line_read text.now }
-    ensures { listed_from text.now result }
+    ensures { listed_as (line_check text.now) (line_values text.now) text.now result }
 {
     match read {
         Ok(list) => Ok(Listed {

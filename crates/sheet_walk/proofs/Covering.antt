@@ -5,11 +5,12 @@ use mathlib.Core.List.{List, [], ◌∷◌}
 use Prim.Native.Nat.{ℕ, zero, suc, ◌+◌, ◌-◌, ◌<◌, ◌≤◌}
 use native.Mathlib.Omega.{arith}
 use borrow.Author.Tests.{le-leb}
-use lib.ListN.{length, drop}
+use lib.ListN.{length}
 use Rattle.format_items.specs.Items.{Field, Items}
 use Rattle.format_items.specs.Met.{Met, met, return_index}
 use Rattle.format_items.specs.MetRanges.{MetWithin, AllMetWithin}
 use Rattle.format_items.proofs.MetLaws.{return_index_is}
+use Rattle.format_items.proofs.MetWithinLaws.{drop_within}
 use Rattle.list_elements.specs.Elements.{Kind}
 use Rattle.sheet_walk.specs.declared.Refusal.{Refusal}
 use Rattle.sheet_walk.specs.declared.State.{State}
@@ -23,14 +24,9 @@ use Rattle.sheet_walk.proofs.StepLaws.{fields_in, Moved, CoveredBy, Covered, Doe
 
 -- ---- the sheet of an accepted format
 
-all_drop : (i : ℕ) (xs : List Met) → AllMetWithin xs → AllMetWithin (drop i xs)
-all_drop zero xs a = a
-all_drop (suc i) [] a = tt
-all_drop (suc i) (x ∷ xs) a = all_drop i xs a.1
-
 pub sheet_walkable : (xs : Items) (kinds : List Kind) (rs : Records) → AllMetWithin (met xs) → 0 < rs.count → Walkable (sheet xs kinds rs)
 sheet_walkable xs kinds rs all some =
-    record { items_within = all; part_within = rw return_index_is at (all_drop (return_index xs) (met xs) all); some_record = some }
+    record { items_within = all; part_within = rw return_index_is at (drop_within (met xs) (return_index xs) all); some_record = some }
 
 -- ---- where the walk stands
 

@@ -10,6 +10,7 @@ use lib.ListN.{get_or-map}
 use Rattle.format_items.specs.Items.{Field}
 use Rattle.format_items.specs.Met.{Met}
 use Rattle.format_items.specs.MetRanges.{MetWithin, AllMetWithin}
+pub use Rattle.format_items.proofs.MetWithinLaws.{drop_within}
 use Rattle.format_words.specs.Words.{met_of, RunWord}
 use Rattle.format_words.specs.declared.Word.{Word}
 use Rattle.format_words.specs.declared.Word.TheVariants as word
@@ -28,11 +29,6 @@ use Rattle.sheet_walk.proofs.StepLaws.{CoveredBy, Covered, Does, step_does, AtEn
 use Rattle.sheet_walk.proofs.Covering.{Stands, covered_inside}
 use Rattle.sheet_walk.proofs.Windows.{inside_room}
 use Rattle.sheet_walk.proofs.Turns.{walk_at, item_at, turns_left, item_turn, item_less, end_turn, end_less}
-
-pub drop_within : (xs : List Met) (i : ℕ) → AllMetWithin xs → AllMetWithin (drop i xs)
-drop_within xs zero h = h
-drop_within [] (suc i) h = tt
-drop_within (x ∷ xs) (suc i) h = drop_within xs i h.1
 
 within_at : (xs : List Met) (i : ℕ) → AllMetWithin xs → MetWithin (get_or xs i Met.slash)
 within_at [] i h = tt

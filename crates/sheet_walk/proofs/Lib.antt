@@ -9,6 +9,7 @@ pub mod Refusing
 pub mod Beyond
 pub mod FieldRanges
 pub mod WidthLaws
+pub mod RecordLaws
 pub mod Turns
 pub mod Starts
 pub mod Following

@@ -1,34 +1,19 @@
 -- Columns covered twice, and the test for them.
 -- Assumes nothing.
 use mathlib.Core.Path.{◌≡◌, refl}
-use mathlib.Core.Bool.{Bool, true, false, ◌||◌}
+use mathlib.Core.Bool.{true, false}
 use mathlib.Core.Logic.{◌⊎◌, inl, inr}
 use Prim.Native.Nat.{ℕ, ◌+◌, ◌<◌, max, min}
 use native.Mathlib.Omega.{arith}
 use borrow.Author.Tests.{ltb-true, lt-ltb, eqb-true, eq-eqb}
 use lib.Dec.{eqb, ltb}
+use Rattle.std.proofs.lemmas.Bool.{or_cases, or_left, or_right}
+pub use Rattle.std.proofs.lemmas.Bool.{or_parts as neither}
 use Rattle.buffer.proofs.Tests.{and_true}
 use Rattle.sheet_walk.specs.Steps.{Placement}
 use Rattle.sheet_walk.specs.Walk.{Trace, put, done, stopped}
 use Rattle.sheet_walk.specs.Columns.{Covers, In, here, there, CoveredTwice, share, shares_with, covered_twice}
 use Rattle.sheet_walk.specs.Promises.{CoveredTwiceIs}
-
--- ---- tests
-
-pub either : (a b : Bool) → (a || b) ≡ true → (a ≡ true) ⊎ (b ≡ true)
-either true b e = inl refl
-either false b e = inr e
-
-pub or_left : (a b : Bool) → a ≡ true → (a || b) ≡ true
-or_left a b e = rw e
-
-pub or_right : (a b : Bool) → b ≡ true → (a || b) ≡ true
-or_right true b e = refl
-or_right false b e = e
-
-pub neither : (a b : Bool) → (a || b) ≡ false → (a ≡ false) × (b ≡ false)
-neither true b e = let z : ◌≡◌ {A = ℕ} 0 1 = cc in absurd (omega arith)
-neither false b e = (refl, e)
 
 -- ---- two placements
 
@@ -56,7 +41,7 @@ covers_share p q r c a b =
 
 pub shares_in : (p : Placement) (t : Trace) → shares_with p t ≡ true → (q : Placement) × In q t × (share p q ≡ true)
 unfolding shares_with
-shares_in p (put q t) e = go (shares_in p t) (either (share p q) (shares_with p t) e)
+shares_in p (put q t) e = go (shares_in p t) (or_cases (share p q) (shares_with p t) e)
   where
     go : (shares_with p t ≡ true → (q₁ : Placement) × In q₁ t × (share p q₁ ≡ true)) → (share p q ≡ true) ⊎ (shares_with p t ≡ true)
         → (q₁ : Placement) × In q₁ (put q t) × (share p q₁ ≡ true)
@@ -83,7 +68,7 @@ SomeTwice t = (r : ℕ) × (c : ℕ) × CoveredTwice r c t
 
 pub test_twice : (t : Trace) → covered_twice t ≡ true → SomeTwice t
 unfolding covered_twice
-test_twice (put p t) e = go (test_twice t) (either (shares_with p t) (covered_twice t) e)
+test_twice (put p t) e = go (test_twice t) (or_cases (shares_with p t) (covered_twice t) e)
   where
     go : (covered_twice t ≡ true → SomeTwice t) → (shares_with p t ≡ true) ⊎ (covered_twice t ≡ true) → SomeTwice (put p t)
     go rest (inl f) =

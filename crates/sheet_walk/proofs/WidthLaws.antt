@@ -7,7 +7,7 @@ use Prim.Native.Nat.{ℕ}
 use borrow.Author.Tests.{le-leb, leb-true}
 use lib.Dec.{leb}
 use Rattle.buffer.proofs.Tests.{and_true}
-use Rattle.sheet_walk.specs.Steps.{width_right}
+use Rattle.sheet_walk.specs.Steps.{widest_record, width_right}
 use Rattle.sheet_walk.specs.declared.Refusal.{Refusal}
 use Rattle.sheet_walk.specs.declared.Refusal.TheVariants.{RecordWidth}
 use Rattle.sheet_walk.specs.declared.width.Width.{Width}
@@ -15,11 +15,11 @@ use Rattle.sheet_walk.specs.Promises.{WidthRight, WidthRightIs}
 
 pub width_passed : (R : ℕ) → width_right R ≡ true → WidthRight R
 width_passed R e =
-    let r = and_true (leb 1 R) (leb R 255) e in
-    record { from = leb-true 1 R r.0; to = leb-true R 255 r.1 }
+    let r = and_true (leb 1 R) (leb R widest_record) e in
+    record { from = leb-true 1 R r.0; to = leb-true R widest_record r.1 }
 
 pub width_right_lem : (R : ℕ) → WidthRight R → width_right R ≡ true
-width_right_lem R w = rw (le-leb 1 R w.from, le-leb R 255 w.to)
+width_right_lem R w = rw (le-leb 1 R w.from, le-leb R widest_record w.to)
 
 pub width_right_is : WidthRightIs
 width_right_is R = (width_passed R, width_right_lem R)

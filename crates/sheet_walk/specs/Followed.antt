@@ -14,6 +14,7 @@ use Rattle.format_words.specs.declared.run.Run.{Run}
 use Rattle.list_elements.specs.declared.Element.{Element}
 use Rattle.sheet_walk.specs.declared.State.{State}
 use Rattle.sheet_walk.specs.declared.walk.Walk.{Walk}
+use Rattle.sheet_walk.specs.Steps.{widest_record}
 
 -- what a walk goes by
 abbrev pub sheet_of : Walk → Sheet
@@ -42,7 +43,7 @@ pub record CoverIs (h : Sheet) (t : List ℕ) (c : Cover) (p : steps.Placement) 
   pub what : p.what ≡ what_of (met_of t c.word) c.place
   pub word : WordCovers t h.kinds c.word c.place c.width
   pub room : c.at + c.width ≤ h.records.count * h.records.width
-  pub few : c.width < 256
+  pub few : c.width ≤ widest_record
 
 -- a step that moves the walk, or is refused, as the code answers it
 abbrev pub MovesAs : steps.Step → Result Unit Refusal → State → Type 0

@@ -1,6 +1,6 @@
 -- What a walk goes by, as the code has it. (Nothing here need be believed: no public call's contract speaks of it.)
 -- Assumes nothing.
-use Rattle.std.specs.Prelude.{◌≡◌, Bool, true, false, cond, List, [], map, ℕ, Option, Some, None, length, drop}
+use Rattle.std.specs.Prelude.{◌≡◌, Bool, true, false, cond, List, [], map, ℕ, ◌/◌, Option, Some, None, Result, Ok, Err, length, drop}
 use Rattle.format_items.specs.Met.{Met}
 use Rattle.format_items.specs.MetRanges.{MetWithin}
 use Rattle.format_words.specs.Words.{met_of, RunWord}
@@ -8,10 +8,12 @@ use Rattle.format_words.specs.declared.Word.{Word}
 use Rattle.format_words.specs.declared.Word.TheVariants as word
 use Rattle.format_words.specs.declared.run.Run.{Run}
 use Rattle.list_elements.specs.Elements.{Kind, kinds_of, text_length}
-use Rattle.sheet_walk.specs.Steps.{Records, What, element, literal, is_integer, is_decimal, is_logical, is_text}
+use Rattle.sheet_walk.specs.Steps.{Records, records_in, What, element, literal, is_integer, is_decimal, is_logical, is_text}
 use Rattle.list_elements.specs.declared.Element.{Element}
 use Rattle.sheet_walk.specs.Walk.{Sheet}
 use Rattle.sheet_walk.specs.Promises.{Suited}
+use Rattle.sheet_walk.specs.declared.Refusal.{Refusal}
+use Rattle.sheet_walk.specs.declared.Refusal.TheVariants.{NoRecord}
 use Rattle.sheet_walk.specs.declared.records.Records as code
 
 -- the items met
@@ -34,6 +36,11 @@ suited_width (word.Literal a n) k = None
 -- the records of a buffer
 abbrev pub records_of : code.Records → Records
 records_of rs = record { width = rs.width; count = rs.count }
+
+-- those that are R wide of a buffer of B bytes; or row 9, 'no record'
+abbrev pub LentAs : ℕ → ℕ → Result code.Records Refusal → Type 0
+LentAs R B (Ok rs) = records_of rs ≡ records_in R B
+LentAs R B (Err why) = (why ≡ NoRecord) × (B / R ≡ 0)
 
 -- what a walk goes by, with the items of a run, these elements and these records
 abbrev pub run_sheet : Run → List Element → Records → Sheet

@@ -6,7 +6,7 @@ use Rattle.format_items.specs.Met.{Met}
 use Rattle.format_items.specs.MetRanges.{AllMetWithin}
 use Rattle.list_elements.specs.Elements.{Kind, integer}
 use Rattle.sheet_walk.specs.Refusals.{refusal_place}
-use Rattle.sheet_walk.specs.Steps.{width_right, Records, What, element, literal, Placement, suits, field_width, moves, covers, refused, ends, start, step, has_field, end_step}
+use Rattle.sheet_walk.specs.Steps.{widest_record, width_right, Records, What, element, literal, Placement, suits, field_width, moves, covers, refused, ends, start, step, has_field, end_step}
 use Rattle.sheet_walk.specs.Walk.{Sheet, Trace, put, done, stopped, return, at_end, walk}
 use Rattle.sheet_walk.specs.Columns.{In, CoveredTwice, covered_twice}
 use Rattle.sheet_walk.specs.Laid.{laid, columns}
@@ -18,7 +18,7 @@ use Rattle.sheet_walk.specs.declared.State.{State}
 
 pub record WidthRight (R : ℕ) : Type 0 where
   pub from : 1 ≤ R
-  pub to : R ≤ 255
+  pub to : R ≤ widest_record
 
 -- the test for it is met exactly there
 abbrev pub WidthRightIs : Type 0

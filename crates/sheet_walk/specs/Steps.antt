@@ -1,6 +1,6 @@
 -- Document 01, 'The walk': what each item does.
 -- Assumes nothing.
-use Rattle.std.specs.Prelude.{Bool, true, false, ◌&&◌, ◌||◌, cond, List, [], ◌∷◌, ℕ, ◌+◌, leb, ltb, length, drop}
+use Rattle.std.specs.Prelude.{Bool, true, false, ◌&&◌, ◌||◌, cond, List, [], ◌∷◌, ℕ, ◌+◌, ◌/◌, leb, ltb, length, drop}
 use Rattle.format_items.specs.Items.{Field}
 use Rattle.format_items.specs.Met.{Met}
 use Rattle.list_elements.specs.Elements.{Kind, integer, decimal, logical, text, text_length}
@@ -9,13 +9,20 @@ use Rattle.sheet_walk.specs.declared.Refusal.TheVariants as refusal
 use Rattle.sheet_walk.specs.declared.State.{State}
 
 -- 'The record width R is 1 to 255.'
-abbrev pub width_right : ℕ → Bool
-width_right R = leb 1 R && leb R 255
+abbrev pub widest_record : ℕ
+widest_record = 255
 
--- 'A lent buffer of B bytes holds B / R whole records, rounded down': their width and their number
+abbrev pub width_right : ℕ → Bool
+width_right R = leb 1 R && leb R widest_record
+
+-- records: their width and their number
 pub record Records : Type 0 where
   pub width : ℕ
   pub count : ℕ
+
+-- 'A lent buffer of B bytes holds B / R whole records, rounded down.'
+abbrev pub records_in : ℕ → ℕ → Records
+records_in R B = record { width = R; count = B / R }
 
 -- ---- where the walk stands, and what is covered
 

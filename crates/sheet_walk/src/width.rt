@@ -1,5 +1,6 @@
 // The record width.
 ghost use Rattle.std.specs.Prelude.{◌≤◌};
+ghost use Rattle.sheet_walk.specs.Steps.{widest_record};
 
 use crate::{Refusal, WIDEST_RECORD};
 
@@ -8,7 +9,7 @@ use crate::{Refusal, WIDEST_RECORD};
 pub struct Width {
     pub columns: usize,
     ghost from: { 1 ≤ columns },
-    ghost to: { columns ≤ 255 },
+    ghost to: { columns ≤ widest_record },
 }
 
 impl TryFrom<usize> for Width {

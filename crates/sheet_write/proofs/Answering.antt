@@ -24,6 +24,7 @@ use Rattle.sheet_walk.specs.declared.Refusal.{Refusal}
 use Rattle.sheet_walk.specs.declared.Refusal.TheVariants.{TooLarge}
 use Rattle.sheet_rows.specs.Rows as refusing
 use Rattle.sheet_rows.specs.Rows.{format_row, element_row, rows_before}
+use Rattle.sheet_rows.proofs.RowLaws.{row_answers}
 use Rattle.write_passes.specs.Placed.{value_at, field_too_large, Judged, refused, judged_at, judged}
 use Rattle.write_passes.proofs.PlacedLaws.{judged_accepts}
 use Rattle.sheet_walk.specs.Answers.{answer_number, answer_place}
@@ -83,11 +84,6 @@ module _ (c : Call) where
   walk_refuses : (xs : Items) (why : Refusal) → Walks c xs → judged (values_of c) (walk_of c xs) ≡ refused why → becomes c ≡ refuses why
   walk_refuses xs why w e = past_rows xs w ∙ ap (concluded (walk_of c xs)) e
 
-  row_refuses : {why : Refusal} → rows_before c.R (format_row (outcome c.format)) (element_row (list_check c.area c.list)) (length c.buffer / c.R) ≡ refusing.refused why
-      → becomes c ≡ refuses why
-  unfolding writing_of
-  row_refuses e = rw e
-
   -- ---- what it answers
 
   -- the number k and the place p
@@ -98,15 +94,13 @@ module _ (c : Call) where
   answers_as e = (ap (λ w. answer_number (answer_of (values_of c) w)) e, ap (λ w. answer_place (answer_of (values_of c) w)) e)
 
   -- a row before the walk
-  row_answers : {k p : ℕ} → RowBefore c k p → AnswersSo k p
-  row_answers {k} {p} a =
-      let r = (rows_said c).answers_only k p a in
-      let s = answers_as (row_refuses r.is) in
-      (s.0 ∙ r.number_is, s.1 ∙ r.place_is)
+  row_before : {k p : ℕ} → RowBefore c k p → AnswersSo k p
+  unfolding writing_of
+  row_before {k} {p} a = row_answers refuses (answer_of (values_of c)) (λ why. refl) _ ((rows_said c).answers_only k p a)
 
 -- the row that is met answers, and no other
 pub meets_only : (c : Call) {k p : ℕ} → AnsweredBy c k p → AnswersSo c k p
 meets_only c (AnsweredBy.acceptable {t} {n} a) = answers_as c (passes c t n a)
-meets_only c (AnsweredBy.row_before a) = row_answers c a
+meets_only c (AnsweredBy.row_before a) = row_before c a
 meets_only c (AnsweredBy.refused_walk {xs} {why} w s all) = answers_as c (walk_refuses c xs why w (judged_stops (values_of c) s all))
 meets_only c (AnsweredBy.too_large {xs} {i} w l) = answers_as c (walk_refuses c xs (TooLarge i) w (judged_large (values_of c) l))

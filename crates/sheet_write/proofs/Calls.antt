@@ -13,13 +13,14 @@ use Rattle.sheet_walk.specs.Walk.{Trace}
 use Rattle.sheet_walk.specs.Laid.{written}
 use Rattle.sheet_walk.specs.Refusals.{refusal_number, refusal_place}
 use Rattle.sheet_walk.specs.declared.Refusal.{Refusal}
-use Rattle.sheet_rows.specs.Rows.{Row, format_row, element_row, rows_before, after_rows, records_in, walk_under}
+use Rattle.sheet_rows.specs.Rows.{Row, format_row, element_row, rows_before, after_rows, walk_under}
 use Rattle.sheet_rows.specs.Promises.{ElementRefused, RowTold, Says}
-use Rattle.sheet_rows.proofs.RowLaws.{element_row_says, rows_say, walk_under_lem}
+use Rattle.sheet_rows.proofs.RowLaws.{element_row_says, text_rows_say, walk_under_lem}
 use Rattle.write_passes.specs.Placed.{characters, Judged}
 use Rattle.sheet_write.specs.Writing.{Writing, accepts, refuses, concluded, walked, writing_of, buffer_of}
 use Rattle.sheet_write.specs.Promises.{Call, values_of, becomes, buffer_after, Walks, RowBefore, walk_of, AcceptableCall, AnsweredBy}
 use Rattle.sheet_write.proofs.Rounds.{Told, told}
+use Rattle.sheet_walk.specs.Steps.{records_in}
 
 -- a writing with the reason for it
 pub data Came (c : Call) : Writing → Type 0 where
@@ -39,7 +40,7 @@ came_walk c xs w (Told.large l) = Came.refused (AnsweredBy.too_large w l)
 pub rows_said : (c : Call)
     → Says (rows_before c.R (format_row (outcome c.format)) (element_row (list_check c.area c.list)) (length c.buffer / c.R)) ((xs : Items) × Walks c xs) (RowBefore c)
 rows_said c =
-    rows_say c.R c.format (element_row (list_check c.area c.list)) (list_check c.area c.list ≡ good) (ElementRefused (list_check c.area c.list))
+    text_rows_say c.R c.format (element_row (list_check c.area c.list)) (list_check c.area c.list ≡ good) (ElementRefused (list_check c.area c.list))
     (length c.buffer / c.R) (element_row_says (list_check c.area c.list))
 
 -- its walk

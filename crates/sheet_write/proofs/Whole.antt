@@ -7,26 +7,22 @@ use lib.ListN.{length}
 use Rattle.std.specs.List.{take-map}
 use Rattle.std.specs.Prelude.{Result, Ok, Err}
 use Rattle.list_elements.specs.Elements.{value_of, values}
-use Rattle.list_elements.specs.Limits.{list_check}
-use Rattle.list_elements.specs.Checked.{listed_as}
+use Rattle.list_elements.specs.Limits.{ListCheck}
+use Rattle.list_elements.specs.Checked.{listed_as, values_in}
 use Rattle.list_elements.specs.declared.BadElement.{BadElement}
 use Rattle.list_elements.specs.declared.listed.Listed.{Listed}
 use Rattle.list_elements.specs.declared.Value.{Value}
 use Rattle.list_elements.specs.declared.List as carried
 use Rattle.sheet_walk.specs.Answers.{Answer, answer_number, answer_place, answer_records, answer_starred}
 use Rattle.sheet_write.specs.Writing.{Writing, accepts, refuses, writing_of, answer_of, buffer_of, writing_number, writing_place, writing_records, writing_starred}
-use Rattle.write_passes.specs.Passes.{values_in}
 use Rattle.sheet_write.specs.Parts.{Wrote, WroteText}
 
--- ---- the list, as it is carried
+-- ---- what was written for the elements of a list
 
-pub as_carried : {R : ℕ} (format area : List ℕ) (l : carried.List) {before : List ℕ} {a : Answer} {after : List ℕ} (x : Result Listed BadElement) → listed_as area l x
-    → WroteText R format x before a after → Wrote R area (values l) before (writing_of R format (list_check area l) (values l) (length before)) a after
-unfolding values
-as_carried {R} format area l {before} {a} {after} (Ok x) p w =
-    let v : values_in x ≡ values l = rw p.1 (sym (take-map value_of l.count l.elements)) in
-    rw (p.0, ← v, ← p.2) w
-as_carried format area l (Err e) p w = rw p (w area (values l))
+pub wrote_listed : {R : ℕ} (format : List ℕ) (check : ListCheck) (vs : List Value) (area : List ℕ) {before : List ℕ} {a : Answer} {after : List ℕ} (x : Result Listed BadElement) → listed_as check vs area x
+    → WroteText R format x before a after → Wrote R area vs before (writing_of R format check vs (length before)) a after
+wrote_listed format check vs area (Ok x) p w = rw (p.0, ← p.1, ← p.2) w
+wrote_listed format check vs area (Err e) p w = rw p (w area vs)
 
 -- ---- the answer's number, place, records and starred
 

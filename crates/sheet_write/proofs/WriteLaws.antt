@@ -17,23 +17,25 @@ use Rattle.list_elements.specs.declared.listed.Listed.{Listed}
 use Rattle.sheet_walk.specs.Answers.{Answer}
 use Rattle.sheet_walk.specs.Walk.{Sheet, sheet, walk}
 use Rattle.sheet_walk.specs.Laid.{laid, blanked, written}
-use Rattle.sheet_walk.specs.Given.{run_sheet, given_sheet}
+use Rattle.sheet_walk.specs.Given.{run_sheet, given_sheet, records_of}
 use Rattle.sheet_walk.specs.declared.Refusal.{Refusal}
 use Rattle.sheet_walk.specs.declared.Refusal.TheVariants as refusal
 use Rattle.sheet_walk.specs.declared.records.Records as code
 use Rattle.sheet_walk.proofs.Covering.{covers_reached}
 use Rattle.sheet_walk.proofs.Puts.{run_walkable}
-use Rattle.sheet_walk.specs.Steps.{Records, width_right}
+use Rattle.sheet_walk.specs.Steps.{Records, width_right, records_in}
 use Rattle.sheet_walk.specs.Promises.{WidthRight}
 use Rattle.sheet_rows.specs.Rows as rows_of_lem
-use Rattle.sheet_rows.specs.Rows.{format_row, element_row, rows_before, records_in}
+use Rattle.sheet_rows.specs.Rows.{format_row, element_row, rows_before}
 use Rattle.sheet_rows.proofs.RowLaws as row
-use Rattle.sheet_rows.proofs.Loads.{kinds_are, run_sheet_is}
+use Rattle.list_elements.proofs.ContentLaws.{kinds_are}
+use Rattle.sheet_rows.proofs.Loads.{run_sheet_is}
 use Rattle.write_passes.specs.Placed.{characters, starred_in, Judged, accepted, refused, judged}
-use Rattle.write_passes.specs.Passes.{values_in, ending_of}
+use Rattle.write_passes.specs.Passes.{ending_of}
 use Rattle.write_passes.proofs.PlacedLaws.{judged_ends}
 use Rattle.sheet_write.specs.Writing.{walked, writing_of}
 use Rattle.sheet_write.specs.Parts.{Wrote, WroteText}
+use Rattle.list_elements.specs.Checked.{values_in}
 
 -- ---- how the walk ends, from the checking pass's answer
 
@@ -61,20 +63,14 @@ module _ (l : Listed) (r : Run) (rs : code.Records) where
     unfolding written blanked
     wrote_accepted g b s a = rw (accepts g) (record { answers = rw s; bytes = rw (← b) a })
 
--- under the sheet of the format
-pub wrote_under : (l : Listed) (r : Run) (rs : Records) {format : List ℕ} (k : RunHeld format r) {before : List ℕ} {a : Answer} {after : List ℕ}
-    → Wrote rs.width l.area.now (values_in l) before (walked (values_in l) (walk (run_sheet r l.elements.now rs))) a after
-    → Wrote rs.width l.area.now (values_in l) before (walked (values_in l) (walk (sheet k.items (map kind_of (values_in l)) rs))) a after
-wrote_under l r rs k {before} {a} {after} w =
-    subst (λ (z : Sheet). Wrote rs.width l.area.now (values_in l) before (walked (values_in l) (walk z)) a after)
-    (run_sheet_is k l.elements.now rs ∙ ap (λ ks. sheet k.items ks rs) (kinds_are l.elements.now)) w
-
--- for records as wide as another number that is the same
-pub wrote_as : (l : Listed) (r : Run) (count : ℕ) {R m : ℕ} → m ≡ R → {before : List ℕ} {a : Answer} {after : List ℕ}
-    → Wrote m l.area.now (values_in l) before (walked (values_in l) (walk (run_sheet r l.elements.now (record { width = m; count = count })))) a after
-    → Wrote R l.area.now (values_in l) before (walked (values_in l) (walk (run_sheet r l.elements.now (record { width = R; count = count })))) a after
-wrote_as l r count e {before} {a} {after} w =
-    subst (λ k. Wrote k l.area.now (values_in l) before (walked (values_in l) (walk (run_sheet r l.elements.now (record { width = k; count = count })))) a after) e w
+-- into the records of a buffer, under the sheet of the format
+pub wrote_under : (l : Listed) (r : Run) (rs : code.Records) (R B : ℕ) → records_of rs ≡ records_in R B → {format : List ℕ} (k : RunHeld format r) {before : List ℕ} {a : Answer} {after : List ℕ}
+    → Wrote rs.width l.area.now (values_in l) before (walked (values_in l) (walk (given_sheet r l.elements.now rs))) a after
+    → Wrote R l.area.now (values_in l) before (walked (values_in l) (walk (sheet k.items (map kind_of (values_in l)) (records_in R B)))) a after
+wrote_under l r rs R B e k {before} {a} {after} w =
+    let lent = subst (λ (x : Records). Wrote x.width l.area.now (values_in l) before (walked (values_in l) (walk (run_sheet r l.elements.now x))) a after) e w in
+    subst (λ (z : Sheet). Wrote R l.area.now (values_in l) before (walked (values_in l) (walk z)) a after)
+    (run_sheet_is k l.elements.now (records_in R B) ∙ ap (λ ks. sheet k.items ks (records_in R B)) (kinds_are l.elements.now)) lent
 
 -- ---- the rows before the walk
 
@@ -85,27 +81,27 @@ module _ (R : ℕ) (text : List ℕ) (check : ListCheck) {area : List ℕ} {vs :
   row_refuses e = rw e (record { answers = refl; bytes = refl })
 
   pub width_refuses : width_right R ≡ false → Wrote R area vs before (writing_of R text check vs (length before)) (Err refusal.RecordWidth) before
-  width_refuses e = row_refuses (row.width_refuses R text (element_row check) (length before / R) e)
+  width_refuses e = row_refuses (row.width_refuses R (format_row (formats.outcome text)) (element_row check) (length before / R) e)
 
   module _ (w : WidthRight R) where
     pub format_refuses : {why : FormatRefusal} → formats.outcome text ≡ formats.refused why
         → Wrote R area vs before (writing_of R text check vs (length before)) (Err (refusal.Format why)) before
-    format_refuses e = row_refuses (row.format_refuses R text (element_row check) (length before / R) w e)
+    format_refuses e = row_refuses (row.format_refuses R (format_row (formats.outcome text)) (element_row check) (length before / R) w (ap format_row e))
 
     module _ {xs : Items} (a : formats.outcome text ≡ formats.accepted xs) where
       pub list_refuses : {p : ℕ} → check ≡ bad p → Wrote R area vs before (writing_of R text check vs (length before)) (Err (refusal.Element p)) before
-      list_refuses e = row_refuses (row.list_refuses R text (element_row check) (length before / R) w a (ap element_row e))
+      list_refuses e = row_refuses (row.list_refuses R (format_row (formats.outcome text)) (element_row check) (length before / R) w (ap format_row a) (ap element_row e))
 
       module _ (g : check ≡ good) where
         pub no_record : length before / R ≡ 0 → Wrote R area vs before (writing_of R text check vs (length before)) (Err refusal.NoRecord) before
-        no_record e = row_refuses (row.record-refuses R text (element_row check) (length before / R) w a (ap element_row g) e)
+        no_record e = row_refuses (row.record-refuses R (format_row (formats.outcome text)) (element_row check) (length before / R) w (ap format_row a) (ap element_row g) e)
 
         pub rows_passed : (length before / R ≡ 0 → ⊥) → {r : Answer} {after : List ℕ}
             → Wrote R area vs before (walked vs (walk (sheet xs (map kind_of vs) (records_in R (length before))))) r after
             → Wrote R area vs before (writing_of R text check vs (length before)) r after
         unfolding writing_of
         rows_passed n d =
-            rw (row.all_passed R text (element_row check) (length before / R) w a (ap element_row g) n, row.walk_under_lem text xs (map kind_of vs) (records_in R (length before)) a) d
+            rw (row.all_passed R (format_row (formats.outcome text)) (element_row check) (length before / R) w (ap format_row a) (ap element_row g) n, row.walk_under_lem text xs (map kind_of vs) (records_in R (length before)) a) d
 
 -- for any list
 module _ (R : ℕ) (text : List ℕ) (x : Result Listed BadElement) (before : List ℕ) where

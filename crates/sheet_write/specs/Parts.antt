@@ -6,8 +6,8 @@ use Rattle.list_elements.specs.declared.BadElement.{BadElement}
 use Rattle.list_elements.specs.declared.Value.{Value}
 use Rattle.list_elements.specs.declared.listed.Listed.{Listed}
 use Rattle.sheet_walk.specs.Answers.{Answer}
-use Rattle.write_passes.specs.Passes.{values_in}
 use Rattle.sheet_write.specs.Writing.{Writing, writing_of, answer_of, buffer_of}
+use Rattle.list_elements.specs.Checked.{values_in}
 
 -- the answer r, and the buffer afterwards, are those of a writing
 pub record Wrote (R : ℕ) (area : List ℕ) (vs : List Value) (before : List ℕ) (w : Writing) (r : Answer) (after : List ℕ) : Type 0 where

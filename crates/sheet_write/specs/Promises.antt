@@ -8,6 +8,7 @@ use Rattle.field_written.specs.Numeral.{Numeric, plain, Numeral, stands_for}
 use Rattle.field_written.specs.Numeral as numeral
 use Rattle.field_written.specs.Promises.{AsWritten}
 use Rattle.format_items.specs.Items.{Field, Items}
+use Rattle.format_grammar.specs.Promises.{Acceptable}
 use Rattle.list_elements.specs.Elements.{kind_of, values}
 use Rattle.list_elements.specs.Limits.{good, list_check}
 use Rattle.list_elements.specs.declared.Decimal.{Decimal}
@@ -15,14 +16,13 @@ use Rattle.list_elements.specs.declared.Value.{Value}
 use Rattle.list_elements.specs.declared.Value.TheVariants as value
 use Rattle.list_elements.specs.declared.List as carried
 use Rattle.sheet_walk.specs.Refusals.{refusal_number, refusal_place}
-use Rattle.sheet_walk.specs.Steps.{element, Placement}
+use Rattle.sheet_walk.specs.Steps.{element, Placement, records_in}
 use Rattle.sheet_walk.specs.Walk.{Trace, put, done, stopped, sheet, walk}
 use Rattle.sheet_walk.specs.Columns.{In, covered_twice, LastCovers, Uncovered}
 use Rattle.sheet_walk.specs.Laid.{offset, columns}
 use Rattle.sheet_walk.specs.Promises.{EndsWith, Inside, Suited, StopsWith, elements_put, numbers_from}
 use Rattle.sheet_walk.specs.declared.Refusal.{Refusal}
-use Rattle.sheet_rows.specs.Rows.{records_in}
-use Rattle.sheet_rows.specs.Promises.{RowsPassed, RowAnswers, ElementRefused}
+use Rattle.sheet_rows.specs.Promises.{RowsPassed, RowAnswers, FormatRefused, ElementRefused}
 use Rattle.write_passes.specs.Placed.{value_at, characters}
 use Rattle.sheet_walk.specs.Answers.{Answer, answer_number, answer_place, answer_records, answer_starred}
 use Rattle.sheet_write.specs.Writing.{Writing, accepts, refuses, writing, write_answer, write_buffer}
@@ -61,11 +61,13 @@ buffer_after c = write_buffer c.R c.format c.list c.area c.buffer
 
 -- every row before the walk is passed, the format's items being xs
 abbrev pub Walks : Call → Items → Type 0
-Walks c xs = RowsPassed c.R c.format (list_check c.area c.list ≡ good) (length c.buffer / c.R) xs
+Walks c xs = RowsPassed c.R (Acceptable c.format xs) (list_check c.area c.list ≡ good) (length c.buffer / c.R)
 
 -- one of them answers with a number and a place
 abbrev pub RowBefore : Call → ℕ → ℕ → Type 0
-RowBefore c = RowAnswers c.R c.format (list_check c.area c.list ≡ good) (ElementRefused (list_check c.area c.list)) (length c.buffer / c.R)
+RowBefore c =
+    RowAnswers c.R ((xs : Items) × Acceptable c.format xs) (FormatRefused c.format) (list_check c.area c.list ≡ good) (ElementRefused (list_check c.area c.list))
+    (length c.buffer / c.R)
 
 -- the call's walk, under the items xs
 abbrev pub walk_of : Call → Items → Trace

@@ -12,8 +12,9 @@ use Rattle.sheet_walk.specs.Refusals.{refusal_number, refusal_place}
 use Rattle.sheet_walk.specs.Walk.{Trace}
 use Rattle.sheet_walk.specs.Laid.{written}
 use Rattle.sheet_walk.specs.declared.Refusal.{Refusal}
-use Rattle.sheet_rows.specs.Rows.{format_row, element_row, rows_before, after_rows, records_in, walk_under}
+use Rattle.sheet_rows.specs.Rows.{format_row, element_row, rows_before, after_rows, walk_under}
 use Rattle.write_passes.specs.Placed.{characters, starred_in, Judged, accepted, refused, judged}
+use Rattle.sheet_walk.specs.Steps.{records_in}
 
 -- accepted, with the walk and the number of records reached, or refused
 pub data Writing : Type 0 where

@@ -10,7 +10,7 @@ use list_elements::BadElement;
 use list_elements::listed::Listed;
 use sheet_walk::records::Records;
 use sheet_walk::width::Width;
-use sheet_walk::{Counts, Refusal, WIDEST_RECORD};
+use sheet_walk::{Counts, Refusal};
 use write_passes::Sheet;
 
 // Under a format that was loaded, if the list is good and there is a record: rows 6 and 9, and the walk. (Reading has rows and a
@@ -24,15 +24,7 @@ fn write_run(
     ensures { (format : List ℕ) → RunHeld format run.entry → WroteText width.columns format list.entry buffer.old result buffer.new }
 {
     let list = list?;
-    let count = buffer.len() / width.columns;
-    if count == 0 {
-        return Err(Refusal::NoRecord);
-    }
-    // The least of both is the width; so the compiler knows that it is small, and a field takes less.
-    let records = Records {
-        width: width.columns.min(WIDEST_RECORD),
-        count,
-    };
+    let records = Records::lent(width, buffer)?;
     write_records(Sheet { run, list, records }, buffer)
 }
 

@@ -73,3 +73,14 @@ pub extern "C" fn test_sheet(
 ) -> usize {
     texts::test_sheet(input, records, output)
 }
+
+// The bytes of the record buffer and of the output that `test_sheet` takes.
+#[unsafe(no_mangle)]
+pub extern "C" fn test_record_buffer() -> usize {
+    RECORD_BUFFER
+}
+
+#[unsafe(no_mangle)]
+pub extern "C" fn test_output() -> usize {
+    OUTPUT
+}

@@ -20,9 +20,10 @@ use Rattle.sheet_walk.specs.declared.walk.Walk.{Walk}
 use Rattle.sheet_walk.proofs.Puts.{cover_in}
 use Rattle.sheet_walk.proofs.Covering.{puts_each, length_numbers}
 use Rattle.write_passes.specs.Placed.{field_starred, value_at, characters_of, characters, starred_of, starred_in, accepted, judged}
-use Rattle.write_passes.specs.Passes.{values_in, what_too_large}
+use Rattle.write_passes.specs.Passes.{what_too_large}
 use Rattle.write_passes.proofs.PlacedLaws.{judged_ends}
 use Rattle.write_passes.proofs.CheckLaws.{put_large, put_small}
+use Rattle.list_elements.specs.Checked.{values_in}
 
 -- ---- as many fields are starred as there are elements, at most
 

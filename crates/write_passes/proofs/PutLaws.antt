@@ -31,7 +31,8 @@ use Rattle.sheet_walk.specs.Promises.{Suited}
 use Rattle.sheet_walk.specs.Steps.{What, suits}
 use Rattle.sheet_walk.specs.Given.{what_of, Covering, WordCovers}
 use Rattle.write_passes.specs.Placed.{field_characters, field_starred, field_too_large, value_at, characters_of, starred_of}
-use Rattle.write_passes.specs.Passes.{values_in, what_too_large}
+use Rattle.write_passes.specs.Passes.{what_too_large}
+use Rattle.list_elements.specs.Checked.{values_in}
 
 -- the value v of the element of a field
 module _ (l : Listed) {t : List ℕ} {word : Word} {i w : ℕ} (p : WordCovers t (kinds_of l.elements.now) word i w) {f : Field ℕ} (e : met_of t word ≡ Met.field f)

@@ -12,10 +12,7 @@ use Rattle.sheet_walk.specs.declared.Cover.{Cover}
 use Rattle.sheet_walk.specs.declared.Refusal.{Refusal}
 use Rattle.write_passes.specs.declared.Sheet.{Sheet}
 use Rattle.write_passes.specs.Placed.{field_too_large, value_at, Judged, accepted, refused, judged}
-
--- the values of a list
-abbrev pub values_in : Listed → List Value
-values_in l = map value_of l.elements.now
+use Rattle.list_elements.specs.Checked.{values_in}
 
 -- a value is too large for what covers columns
 abbrev pub what_too_large : List Value → What → Bool
@@ -39,8 +36,8 @@ values_of s = values_in s.list
 abbrev pub walk_of : Sheet → Trace
 walk_of s = walk (given_sheet s.run s.list.elements.now s.records)
 
--- the walk is accepted with the values
-pub record Accepts (s : Sheet) : Type 0 where
+-- the walk is accepted with the values, for some number of records
+pub record SomeAccepted (s : Sheet) : Type 0 where
   pub n : ℕ
   pub accepts : judged (values_of s) (walk_of s) ≡ accepted n
 

@@ -3,7 +3,8 @@ ghost use Rattle.std.specs.Prelude.{◌≡◌, List, ℕ, false, length};
 ghost use Rattle.format_words.specs.Words.{met_of};
 ghost use Rattle.sheet_walk.specs.Given.{what_of};
 ghost use Rattle.write_passes.specs.Placed.{characters_of, starred_of};
-ghost use Rattle.write_passes.specs.Passes.{values_in, what_too_large, CoversIn, SomeCovers};
+ghost use Rattle.write_passes.specs.Passes.{what_too_large, CoversIn, SomeCovers};
+ghost use Rattle.list_elements.specs.Checked.{values_in};
 
 use field_written::decimal::write_decimal;
 use field_written::integer::write_integer;

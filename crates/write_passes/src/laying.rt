@@ -2,7 +2,7 @@
 ghost use Rattle.std.specs.Prelude.{◌≡◌, ◌*◌, ◌≤◌, length};
 ghost use Rattle.sheet_walk.specs.Laid.{laid};
 ghost use Rattle.write_passes.specs.Placed.{characters, starred_in};
-ghost use Rattle.write_passes.specs.Passes.{values_of, walk_of, Accepts};
+ghost use Rattle.write_passes.specs.Passes.{values_of, walk_of, SomeAccepted};
 
 use crate::Sheet;
 use crate::fields::put;
@@ -12,7 +12,7 @@ use sheet_walk::walk::Walk;
 // of those who lend it: a ghost field beside a lent `&mut` is not possible.)
 pub fn lay_pass(buffer: &mut [u8], sheet: Sheet<'_>) -> usize
     requires room { sheet.records.count * sheet.records.width ≤ length buffer.old }
-    requires accepts { Accepts sheet }
+    requires accepts { SomeAccepted sheet }
     ensures stars { result ≡ starred_in (values_of sheet.entry) (walk_of sheet.entry) }
     ensures bytes { buffer.new ≡ laid sheet.entry.records.width (characters sheet.entry.list.area.now (values_of sheet.entry)) (walk_of sheet.entry) buffer.old }
 {

@@ -100,7 +100,10 @@ pub fn list_text(text: &[u8]) -> ([u64; 3], [Value; SLOTS]) {
 
 /// The number of bytes put at the start of the output.
 pub fn sheet(input: &[u8], records: &mut [u8; crate::SHEET_RECORDS], output: &mut [u8; crate::SHEET_OUTPUT]) -> u64 {
-    // SAFETY: the input's pointer comes with its length, and both buffers are as long as the call wants them.
+    // SAFETY: they are told nothing, and touch nothing.
+    let wanted = unsafe { (calls::test_record_buffer(), calls::test_output()) };
+    assert_eq!(wanted, (records.len(), output.len()), "the buffers are as long as the call wants them");
+    // SAFETY: the input's pointer comes with its length, and the buffers have the lengths just compared.
     unsafe { calls::test_sheet(input.as_ptr(), input.len(), records.as_mut_ptr(), output.as_mut_ptr()) as u64 }
 }
 

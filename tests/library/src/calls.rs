@@ -48,6 +48,8 @@ extern "C" {
         answer: *mut usize,
         answer_len: usize,
     );
+    pub fn test_record_buffer() -> usize;
+    pub fn test_output() -> usize;
     pub fn test_sheet(input: *const u8, input_len: usize, records: *mut u8, output: *mut u8) -> usize;
     pub fn trimsheet_write(
         width: usize,

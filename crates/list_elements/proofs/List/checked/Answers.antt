@@ -1,12 +1,13 @@
 use Rattle.std.proofs.Common.{◌≡◌, ◌∙◌, sym, subst, length}
+use Rattle.list_elements.specs.Elements.{most_elements}
 use Rattle.list_elements.specs.Checked.{CheckedAs}
 use Rattle.list_elements.proofs.Checking.{any_map, checked_none, checked_more, checked_bad, checked_good, check_bad, checked_as}
 use Rattle.list_elements.proofs.List.checked.Given as given
 use Rattle.list_elements.proofs.List.checked.Goals as goal
 use Rattle.list_elements.proofs.List.checked.Goals.{Start}
 
--- the list's array has 64 elements
-full : (g : given.Over) (c : Start g) → length c.args.self.now.elements ≡ 64
+-- the length of the list's array
+full : (g : given.Over) (c : Start g) → length c.args.self.now.elements ≡ most_elements
 full g c = search any_map
 
 pub loop-place-init : goal.loop-place-init

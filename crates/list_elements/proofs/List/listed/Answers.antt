@@ -1,4 +1,6 @@
-use Rattle.std.proofs.Common.{◌≡◌, refl, subst, take, rules}
+use Rattle.std.proofs.Common.{◌≡◌, refl, sym, subst, take, rules}
+use Rattle.std.specs.List.{take-map}
+use Rattle.list_elements.specs.Elements.{value_of, values}
 use Rattle.list_elements.specs.Limits.{within_limits, good, list_check}
 use Rattle.list_elements.specs.Checked.{CheckedAs}
 use Rattle.list_elements.proofs.GoodLaws.{good_all}
@@ -15,4 +17,7 @@ invariant_of-result c =
     record { within = good_all (within_limits c.args.area.now) c.args.self.now c.in_ok-elements.elements.now k.0 k.1 }
 
 pub returns : goal.returns
-returns c = let k = checked (goal.at.returns c).In_ok-elements in (k.0, k.1, refl)
+unfolding values
+returns c =
+    let k = checked (goal.at.returns c).In_ok-elements in
+    (k.0, rw k.1 (sym (take-map value_of c.args.self.now.count c.args.self.now.elements)), refl)

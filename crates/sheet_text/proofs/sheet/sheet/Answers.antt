@@ -14,7 +14,7 @@ use Rattle.sheet_text.specs.Output.{refused_line}
 use Rattle.sheet_text.specs.Input.{width_on, input_width}
 use Rattle.sheet_text.specs.SheetOutput.{record_buffer, sheet_output}
 use Rattle.sheet_text.proofs.Unread.{rest_unread}
-use Rattle.sheet_text.proofs.SheetLaws.{counts, Did, did, no_width, sheet_refused, sheet_accepted, output_put}
+use Rattle.sheet_text.proofs.SheetLaws.{counts, Did, did, sheet_refused, sheet_accepted, output_put}
 use Rattle.sheet_text.proofs.sheet.sheet.Goals as goal
 use Rattle.sheet_text.proofs.sheet.sheet.Goals.{After-write_list_text}
 
@@ -22,8 +22,8 @@ use Rattle.sheet_text.proofs.sheet.sheet.Goals.{After-write_list_text}
 beginning : (s whole : List ℕ) → s ≡ take 8192 whole → sheet_output s ≡ sheet_output whole
 beginning s whole e = ap sheet_output e ∙ rest_unread whole 8192 (omega arith)
 
-width_is : (c : After-write_list_text) → c.in-Some.width ≡ input_width c.args.input.now
-width_is c = c.in-Some.ensures ∙ ap width_on c.split_line.ensures.line
+width_is : (c : After-write_list_text) → c.read_width-width.result ≡ input_width c.args.input.now
+width_is c = c.read_width-width.ensures ∙ ap width_on c.split_line.ensures.line
 
 full : (c : After-write_list_text) → length c.args.records.now ≡ record_buffer
 full c = search rules
@@ -31,12 +31,12 @@ full c = search rules
 -- what writing did
 wrote : (c : After-write_list_text) → Did c.args.input.now c.args.records.now c.write_list_text.result c.write_list_text.new.buffer
 wrote c =
-    did c.args.input.now c.args.records.now (full c) c.in-Some.ensures c.split_line.ensures.line (c.split_line-2.ensures.line ∙ ap first_line c.split_line.ensures.rest) (c.split_line-2.ensures.rest ∙ ap after_line c.split_line.ensures.rest)
+    did c.args.input.now c.args.records.now (full c) c.read_width-width.ensures c.split_line.ensures.line (c.split_line-2.ensures.line ∙ ap first_line c.split_line.ensures.rest) (c.split_line-2.ensures.rest ∙ ap after_line c.split_line.ensures.rest)
     c.write_list_text.ensures.answers c.write_list_text.ensures.bytes
 
 -- n records fit, each with a line feed
 lines_fit : (c : After-write_list_text) {count starred : ℕ} → c.write_list_text.result ≡ Ok (counts count starred)
-    → (count * c.in-Some.width ≤ record_buffer) × (count ≤ record_buffer)
+    → (count * c.read_width-width.result ≤ record_buffer) × (count ≤ record_buffer)
 lines_fit c {count} e =
     let o = sheet_accepted c.args.input.now c.args.records.now (full c) (wrote c) e in
     let w = ap (λ (x : ℕ). count * x) (width_is c) in
@@ -58,18 +58,11 @@ refused : (s before d₀ : List ℕ) {after d₁ line : List ℕ} {r : Answer} {
     → (d₁ ≡ splice d₀ 0 (sheet_output s)) × (n ≡ length (sheet_output s))
 refused s before d₀ d e is put long = let o = sheet_refused s before d e in (put ∙ rw (is, o), long ∙ rw (is, o) (omega arith))
 
-pub returns-in_default : goal.returns-in_default
-returns-in_default c =
-    let w = c.in_default.ensures ∙ ap width_on c.split_line.ensures.line in
-    let d = no_width c.args.input.now c.args.records.now (search rules) (sym w) in
-    let o = refused c.args.input.now c.args.records.now c.args.output.now d refl c.refusal_line.ensures c.put_line.ensures.line c.put_line.ensures.end in
-    record { length = o.1; room = omega (arith, c.put_line.ensures.few); output = o.0; records = d.is; whole = beginning _ }
-
 pub returns-in-Err : goal.returns-in-Err
 returns-in-Err c =
     let d = wrote (goal.at.returns-in-Err c).After-write_list_text in
-    let o = refused c.args.input.now c.args.records.now c.args.output.now d c.in-Err.is c.refusal_line-in-Err.ensures c.put_line-in-Err.ensures.line c.put_line-in-Err.ensures.end in
-    record { length = o.1; room = omega (arith, c.put_line-in-Err.ensures.few); output = o.0; records = d.is; whole = beginning _ }
+    let o = refused c.args.input.now c.args.records.now c.args.output.now d c.in-Err.is c.refusal_line.ensures c.put_line.ensures.line c.put_line.ensures.end in
+    record { length = o.1; room = omega (arith, c.put_line.ensures.few); output = o.0; records = d.is; whole = beginning _ }
 
 pub returns-in-Ok : goal.returns-in-Ok
 returns-in-Ok c =
