@@ -1,4 +1,4 @@
--- Document 01, the console host: 'the answer is the records written (0 for an accepted format check) or the refusal's number
+-- The rules, the console host: 'the answer is the records written (0 for an accepted format check) or the refusal's number
 -- negated, without its place'.
 -- Assumes nothing.
 use Rattle.std.specs.Prelude.{ℤ, pos, neg_ℤ, Ok, Err}

@@ -1,4 +1,4 @@
--- Document 01, 'Fields read': L.
+-- The rules, 'Fields read': L.
 -- Assumes nothing.
 use Rattle.std.specs.Prelude.{Bool, true, false, cond, List, [], ◌∷◌, Option, Some, None, ℕ, eqb}
 use Rattle.buffer.specs.Characters.{blank, decimal_point}

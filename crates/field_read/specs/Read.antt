@@ -1,4 +1,4 @@
--- Document 01, 'Fields read': I and F, and the shown value.
+-- The rules, 'Fields read': I and F, and the shown value.
 -- Assumes nothing.
 use Rattle.std.specs.Prelude.{◌≡◌, ◌&&◌, cond, List, [], ◌∷◌, ◌++◌, ℕ, ltb, leb, eqb, length, drop, ℤ, pos, Option, Some, None}
 use Rattle.buffer.specs.Characters.{blank, plus_sign, minus_sign, decimal_point}

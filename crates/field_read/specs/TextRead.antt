@@ -1,4 +1,4 @@
--- Document 01, 'Fields read': A, and the shown value of a text.
+-- The rules, 'Fields read': A, and the shown value of a text.
 -- Assumes nothing.
 use Rattle.std.specs.Prelude.{Bool, cond, List, ◌++◌, ℕ, ◌-◌, leb, length, take, drop, replicate}
 use Rattle.buffer.specs.Characters.{blank, all_printable}

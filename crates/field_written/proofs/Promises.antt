@@ -120,7 +120,7 @@ shown g f w n e =
           }
     ]
 
--- with blanks up to the width they make a numeral as document 01 has it
+-- with blanks up to the width they make a numeral as the rules have it
 pub unstarred_is_numeral : UnstarredIsNumeral
 unfolding field numeral_text
 unstarred_is_numeral g f w n e =

@@ -1,4 +1,4 @@
--- Document 01, 'Fields written': the field of a logical.
+-- The rules, 'Fields written': the field of a logical.
 -- Assumes nothing.
 use Rattle.std.specs.Prelude.{Bool, true, false, List, [], ◌∷◌, ℕ}
 use Rattle.buffer.specs.Characters.{letter_f, letter_t}

@@ -1,4 +1,4 @@
--- Document 01, 'Fields written': the numeral of width w, and what it stands for.
+-- The rules, 'Fields written': the numeral of width w, and what it stands for.
 -- Assumes nothing.
 use Rattle.std.specs.Prelude.{◌≡◌, List, [], ◌∷◌, ◌++◌, ℕ, ◌+◌, ◌<◌, length, replicate, ℤ, pos, neg_ℤ}
 use Rattle.buffer.specs.Characters.{blank, plus_sign, minus_sign, decimal_point}
@@ -37,7 +37,7 @@ signed Minus m = neg_ℤ (pos m)
 abbrev pub layout : Numeric → ℕ → Sign → List ℕ → List ℕ → List ℕ
 layout f blanks sign whole fraction = replicate blanks blank ++ (sign_bytes sign ++ (whole ++ (point f ++ fraction)))
 
--- A setting says which numerals are permitted. Document 01 has one, which permits all; document 02 adds others.
+-- A setting says which numerals are permitted. There is one, which permits all.
 pub data Setting : Type 0 where
   plain : Setting
 

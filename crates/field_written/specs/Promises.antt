@@ -16,13 +16,13 @@ FieldLength = (g : Setting) (f : Numeric) (w : ℕ) (n : ℤ) → length (field 
 abbrev pub StarredIs : Type 0
 StarredIs = (g : Setting) (f : Numeric) (w : ℕ) (n : ℤ) → (starred g f w n ≡ true) ↔ (field g f w n ≡ replicate w asterisk)
 
--- Demand 3 of the order at one field: it is w asterisks exactly when no numeral of width w stands for the value
+-- 'Stars and reading back' at one field: it is w asterisks exactly when no numeral of width w stands for the value
 -- (n for I, the rounded units for F)
 abbrev pub StarsExactlyWhen : Type 0
 StarsExactlyWhen =
     (g : Setting) (f : Numeric) (w : ℕ) (n : ℤ) → (field g f w n ≡ replicate w asterisk) ↔ ((t : Numeral g f w) → stands_for t ≡ n → ⊥)
 
--- what document 01 says of the numeral that a field is: 'with − exactly for a value below zero after rounding, never +,
+-- what the rules say of the numeral that a field is: 'with − exactly for a value below zero after rounding, never +,
 -- and no leading zero, except the only digit of an I and one zero before the point of an F with integer part 0 where a
 -- column is free'
 pub record AsWritten (g : Setting) (f : Numeric) (w : ℕ) (n : ℤ) (t : Numeral g f w) : Type 0 where
@@ -59,7 +59,7 @@ abbrev pub DecimalRefusedLeaves : Type 0
 DecimalRefusedLeaves =
     (g : Setting) (buffer : List ℕ) (at w d : ℕ) (u : ℤ) (s : ℕ) → put_refusal (put_decimal g w d u s) ≡ 11 → after_decimal g buffer at w d u s ≡ buffer
 
--- demand 3 for F: where it is not refused, it is starred exactly when no numeral of width w stands for the decimal
+-- the same for F: where it is not refused, it is starred exactly when no numeral of width w stands for the decimal
 -- rounded to d places
 abbrev pub DecimalStarsExactlyWhen : Type 0
 DecimalStarsExactlyWhen =
@@ -70,7 +70,7 @@ abbrev pub DecimalStarred : Type 0
 DecimalStarred =
     (g : Setting) (buffer : List ℕ) (at w d : ℕ) (u : ℤ) (s : ℕ) → put_starred (put_decimal g w d u s) ≡ 1 → after_decimal g buffer at w d u s ≡ splice buffer at (replicate w asterisk)
 
--- and else the numeral that stands for it, as document 01 has it
+-- and else the numeral that stands for it, as the rules have it
 abbrev pub DecimalShown : Type 0
 DecimalShown =
     (g : Setting) (buffer : List ℕ) (at w d : ℕ) (u : ℤ) (s : ℕ) → put_refusal (put_decimal g w d u s) ≡ 0 → put_starred (put_decimal g w d u s) ≡ 0 → (t : Numeral g (F d) w) × (after_decimal g buffer at w d u s ≡ splice buffer at (characters t)) × (Nearest u s d (stands_for t)) × (AsWritten g (F d) w (stands_for t) t)

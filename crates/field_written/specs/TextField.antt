@@ -1,4 +1,4 @@
--- Document 01, 'Fields written': the field of a text.
+-- The rules, 'Fields written': the field of a text.
 -- Assumes nothing.
 use Rattle.std.specs.Prelude.{cond, List, ℕ, leb, length, take}
 use Rattle.field_written.specs.Written.{justified}

@@ -1,4 +1,4 @@
--- Document 01, 'Fields written': the numeric field.
+-- The rules, 'Fields written': the numeric field.
 -- Assumes nothing.
 use Rattle.std.specs.Prelude.{Bool, true, false, ◌&&◌, cond, List, ◌++◌, ℕ, ◌-◌, ◌/◌, ◌^◌, ltb, leb, eqb, length, replicate, ℤ, nat_abs, Result, Ok, Err}
 use Rattle.buffer.specs.Characters.{blank, asterisk}

@@ -14,7 +14,7 @@ abbrev pub answer : Outcome → CheckAnswer
 answer (accepted xs) = Ok tt
 answer (refused why) = Err why
 
--- document 01's number and place of each answer; 0 where the format is accepted
+-- the rules' number and place of each answer; 0 where the format is accepted
 abbrev pub answer_number : CheckAnswer → ℕ
 answer_number (Ok _) = 0
 answer_number (Err why) = refusal_number why

@@ -1,4 +1,4 @@
-// The format check: rows 2 to 5 of document 01's 'Checks by place'.
+// The format check: rows 2 to 5 of the rules' 'Checks by place'.
 #![tactic(auto)]
 
 pub mod check;

@@ -13,8 +13,8 @@ use Rattle.format_grammar.specs.Grammar.{At, Mark, doubled, LiteralAt}
 use Rattle.buffer.specs.Characters.{Printable, is_printable}
 use Rattle.format_grammar.specs.Reading.{is_empty}
 use Rattle.format_grammar.proofs.PartLaws.{part_more}
-use Rattle.buffer.proofs.Tests.{and_true}
 use Rattle.format_grammar.proofs.Reached.{InsideAt}
+use Rattle.std.proofs.lemmas.Bool.{and_parts}
 
 -- ---- the characters with one more
 
@@ -49,7 +49,7 @@ pub plain_at : {s : List ℕ} {a m at : ℕ} {cs : List ℕ} → InsideAt s a m 
     → InsideAt s a m (cs ++ get_or s at 0 ∷ []) (at + 1)
 plain_at {s} {a} {m} {at} {cs} k h e f =
     let b : ℕ = get_or s at 0 in
-    let t = and_true (leb 32 b) (leb b 126) f in
+    let t = and_parts (leb 32 b) (leb b 126) f in
     record {
       low = omega arith;
       mark = k.mark;

@@ -17,9 +17,9 @@ use Rattle.format_grammar.specs.Grammar.{At, NumberAt, RepeatAt, FieldAt, Mark, 
 use Rattle.format_grammar.specs.Reading.{Use, Mode, Open, State, step, step_within, written, separated, only_absent, skipped, opened, begun, pointed, used, close, is_empty}
 use Rattle.format_grammar.proofs.PartLaws.{part_none, value_more, digits_more}
 use Rattle.format_grammar.proofs.Cases.{pick_cases, is_mark}
-use Rattle.buffer.proofs.Tests.{and_true}
 use Rattle.format_grammar.proofs.LiteralSteps.{plain_at, doubled_at, literal_at}
 use Rattle.format_grammar.proofs.Reached.{Before, Bracket, Begun, UsedAt, DigitsAt, InsideAt, Reached}
+use Rattle.std.proofs.lemmas.Bool.{and_parts}
 
 -- the byte at an offset is the one it was found to be
 found : {s : List ℕ} {at : ℕ} (c : ℕ) → at < length s → eqb (get_or s at 0) c ≡ true → At s at c
@@ -32,7 +32,7 @@ no_digits s at h = record { low = omega arith; few = omega arith; within = h; di
 
 one_digit : {s : List ℕ} {o v at : ℕ} → DigitsAt s o v at → at < length s → (ltb at (o + 3) && is_digit (get_or s at 0)) ≡ true → DigitsAt s o (v * 10 + (get_or s at 0 - 48)) (at + 1)
 one_digit {s} {o} {v} {at} d h e =
-    let t = and_true (ltb at (o + 3)) (is_digit (get_or s at 0)) e in
+    let t = and_parts (ltb at (o + 3)) (is_digit (get_or s at 0)) e in
     let b = digit_bounds (get_or s at 0) t.1 in
     record {
       low = omega arith;

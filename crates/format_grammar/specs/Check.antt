@@ -1,4 +1,4 @@
--- Document 01, 'Checks by place': rows 2 to 5. 'The format check takes the format alone and applies rows 2 to 5', 'in this
+-- The rules, 'Checks by place': rows 2 to 5. 'The format check takes the format alone and applies rows 2 to 5', 'in this
 -- order'. Row 2 stands last in this file, since each row is written with the rows that apply after it.
 -- Assumes nothing.
 use Rattle.std.specs.Prelude.{cond, List, ℕ, ltb, length, Option, Some, None}

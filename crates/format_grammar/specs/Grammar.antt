@@ -1,5 +1,5 @@
--- Document 01, 'The format': the grammar, as a relation between a text s and what stands in it from an offset a up to an
--- offset b, the byte at b not included. Ranges, the size and the 1,024 bytes are no part of it. Laid beside the paper:
+-- The rules, 'The format': the grammar, as a relation between a text s and what stands in it from an offset a up to an
+-- offset b, the byte at b not included. Ranges, the size and the 1,024 bytes are no part of it. Laid beside the rules:
 --   'Format: ( items ), one or more items, a comma between any two.'     Format, and Derives for items
 --   'Item: ..'                                                           Derives for item
 --   'Field: Iw, Fw.d, Lw, A or Aw.'                                      FieldAt
@@ -70,7 +70,7 @@ pub record LiteralAt (s : List ℕ) (a : ℕ) (cs : List ℕ) (c : ℕ) : Type 0
 abbrev pub levels : ℕ
 levels = 4
 
--- what a rule derives: one item, or one or more. (One relation with this index stands for the two that the paper has.)
+-- what a rule derives: one item, or one or more. (One relation with this index stands for the two that the rules have.)
 pub data Nonterminal : Type 0 where
   item items : Nonterminal
 

@@ -1,4 +1,4 @@
--- Document 01, 'The format': items as a tree.
+-- The rules, 'The format': items as a tree.
 -- Assumes nothing.
 use Rattle.std.specs.Prelude.{List, ℕ}
 

@@ -1,4 +1,4 @@
--- Document 01, 'The walk': the items met, and the part that the walk returns to.
+-- The rules, 'The walk': the items met, and the part that the walk returns to.
 -- Assumes nothing.
 use Rattle.std.specs.Prelude.{Bool, true, false, cond, List, [], ◌∷◌, ◌++◌, ℕ, zero, suc, ◌-◌, length, replicate}
 use Rattle.format_items.specs.Items.{Number, value_of, times, Field, Items}

@@ -1,4 +1,4 @@
--- Document 01, 'The format': the ranges of numbers and the characters of literals, for items met.
+-- The rules, 'The format': the ranges of numbers and the characters of literals, for items met.
 -- Assumes nothing.
 use Rattle.std.specs.Prelude.{List, [], ◌∷◌, ℕ, ◌<◌, length}
 use Rattle.std.specs.Coded.{×_prop, Unit-prop, le_prop}

@@ -1,4 +1,4 @@
--- Document 01, 'The format': 'Ranges: r, and n in X and T, 1 to 255; w 1 to 64; d 0 to 9.'
+-- The rules, 'The format': 'Ranges: r, and n in X and T, 1 to 255; w 1 to 64; d 0 to 9.'
 -- Assumes nothing.
 use Rattle.std.specs.Prelude.{Bool, ◌||◌, cond, List, [], ◌∷◌, ◌++◌, ℕ, ◌≤◌, ltb, Option, Some, None}
 use Rattle.format_items.specs.Items.{Number, offset, value_of, Repeat, absent, given, Field, I, F, L, A, Aw, Items, none, field, group, X, T, slash, literal}

@@ -1,4 +1,4 @@
--- Document 01, 'Checks by place': the columns 'No.' and 'Place' of rows 2 to 5.
+-- The rules, 'Checks by place': the columns 'No.' and 'Place' of rows 2 to 5.
 -- Assumes nothing.
 use Rattle.std.specs.Prelude.{ℕ}
 use Rattle.format_items.specs.declared.FormatRefusal.{FormatRefusal}

@@ -1,4 +1,4 @@
--- Document 01, 'The format': the size.
+-- The rules, 'The format': the size.
 -- Assumes nothing.
 use Rattle.std.specs.Prelude.{ℕ, ◌+◌, ◌*◌}
 use Rattle.format_items.specs.Items.{times, Items, none, field, group, X, T, slash, literal}

@@ -16,7 +16,7 @@ pub const LARGEST_WIDTH: u16 = 64;
 
 pub const LARGEST_PLACES: u16 = 9;
 
-// A format refused: rows 2 to 5 of document 01's 'Checks by place'.
+// A format refused: rows 2 to 5 of the rules' 'Checks by place'.
 #[derive(Clone, Copy, PartialEq, Eq, Debug)]
 pub enum FormatRefusal {
     Length,
@@ -25,7 +25,7 @@ pub enum FormatRefusal {
     Size,
 }
 
-// Refusals as document 01 numbers and places them.
+// Refusals as the rules number and place them.
 impl FormatRefusal {
     ghost use Rattle.format_items.specs.Refusals.{refusal_number, refusal_place};
 

@@ -11,13 +11,13 @@ use lib.Dec.{leb}
 use lib.ListN.{length, take, drop, get_or}
 use lib.Seq.{take-suc, take_all, length-take-le, drop-cons}
 use Rattle.std.specs.Prelude.{None, Some}
-use Rattle.buffer.proofs.Tests.{and_true}
 use Rattle.number.specs.Limits.{largest}
 use Rattle.number.specs.Digits.{is_digit, Digits, all_digits, value}
 use Rattle.number.proofs.PowerLaws.{ten_le}
 use Rattle.number.proofs.DigitLaws.{digit_bounds, digits_append, value_append, value_below, all_digits_lem, all_digits_is}
 use Rattle.list_text.specs.ElementLines.{some_digits}
 use Rattle.list_text.specs.Steps.{digits_read}
+use Rattle.std.proofs.lemmas.Bool.{and_parts}
 
 -- ---- the loop: the first i bytes are digits, which make v
 
@@ -73,7 +73,7 @@ module _ (most : ℕ) (s : List ℕ) where
 
   module _ (fits : (leb 1 (length s) && leb (length s) most) ≡ true) where
     pub digits_short : length s ≤ most
-    digits_short = leb-true (length s) most (and_true (leb 1 (length s)) (leb (length s) most) fits).1
+    digits_short = leb-true (length s) most (and_parts (leb 1 (length s)) (leb (length s) most) fits).1
 
     pub digits_wrong : all_digits s ≡ false → None ≡ digits_read most s
     unfolding digits_read some_digits
@@ -88,8 +88,8 @@ module _ (most : ℕ) (s : List ℕ) where
 pub some_digits_lem : (most : ℕ) (s : List ℕ) → some_digits most s ≡ true → (1 ≤ length s) × (length s ≤ most) × Digits s
 unfolding some_digits
 some_digits_lem most s e =
-    let a = and_true (leb 1 (length s)) (leb (length s) most && all_digits s) e in
-    let b = and_true (leb (length s) most) (all_digits s) a.1 in
+    let a = and_parts (leb 1 (length s)) (leb (length s) most && all_digits s) e in
+    let b = and_parts (leb (length s) most) (all_digits s) a.1 in
     (leb-true 1 (length s) a.0, leb-true (length s) most b.0, (all_digits_is s).0 b.1)
 
 -- a number of at most 18 digits is within the limits

@@ -1,4 +1,4 @@
--- Element lines in document 01's words.
+-- Element lines in the rules' words.
 -- Assumes nothing.
 use mathlib.Core.Path.{◌≡◌, refl, sym, ap, subst, ◌∙◌}
 use mathlib.Core.Logic.{◌⊎◌, inl, inr}
@@ -21,8 +21,8 @@ use Rattle.list_elements.specs.declared.Value.TheVariants as value
 use Rattle.list_text.specs.ElementLines.{some_digits, has_minus, after_minus, is_number, number_of, malformed, integer_line, units_part, places_byte, decimal_line, logical_line, element_on}
 use Rattle.list_text.specs.Promises.{Number, ElementLine, ElementLineIs}
 use Rattle.list_text.proofs.DigitReads.{some_digits_lem}
-use Rattle.buffer.proofs.Tests.{and_true}
 use Rattle.list_text.proofs.ElementLaws.{element_unblank, element_short, element_other}
+use Rattle.std.proofs.lemmas.Bool.{and_parts}
 
 -- ---- numbers
 
@@ -133,8 +133,8 @@ decimal_spelled start s = go (is_number (units_part s) && (eqb (get_or s (length
 
     go : (t : Bool) → (is_number (units_part s) && (eqb (get_or s (length s - 2) 0) blank && is_digit (places_byte s))) ≡ t → Spelled start (letter_d ∷ blank ∷ s)
     go true e =
-        let a = and_true (is_number (units_part s)) (eqb (get_or s (length s - 2) 0) blank && is_digit (places_byte s)) e in
-        let b = and_true (eqb (get_or s (length s - 2) 0) blank) (is_digit (places_byte s)) a.1 in
+        let a = and_parts (is_number (units_part s)) (eqb (get_or s (length s - 2) 0) blank && is_digit (places_byte s)) e in
+        let b = and_parts (eqb (get_or s (length s - 2) 0) blank) (is_digit (places_byte s)) a.1 in
         inl (rw e (found a.0 (eqb-true (get_or s (length s - 2) 0) blank b.0) b.1))
     go false e = inr (rw e)
 

@@ -1,4 +1,4 @@
--- Document 01, the list text: 'one element a line: I and n; D, u and s; L and T or F; A and the text, single blanks between; the
+-- The rules, the list text: 'one element a line: I and n; D, u and s; L and T or F; A and the text, single blanks between; the
 -- text is the rest of its line. Numbers have an optional − and 1 to 18 digits, s one digit'.
 -- Assumes nothing.
 use Rattle.std.specs.Prelude.{Bool, ◌&&◌, ◌||◌, cond, List, ℕ, ◌+◌, ◌-◌, eqb, leb, ℤ, length, take, drop, get_or}

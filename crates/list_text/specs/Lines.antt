@@ -1,4 +1,4 @@
--- Document 01, the program's input: 'each line ends in a line feed, which the last may lack'.
+-- The rules, the program's input: 'each line ends in a line feed, which the last may lack'.
 -- Assumes nothing.
 use Rattle.std.specs.Prelude.{cond, List, [], ◌∷◌, ℕ, eqb}
 

@@ -1,4 +1,4 @@
--- Document 01, the list text as a list, and row 6 of it.
+-- The rules, the list text as a list, and row 6 of it.
 -- Assumes nothing.
 use Rattle.std.specs.Prelude.{List, [], ◌∷◌, ℕ, ◌+◌, length, Result, Ok, Err}
 use Rattle.std.specs.Result.{result_unwrap_or}

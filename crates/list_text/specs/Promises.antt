@@ -17,7 +17,7 @@ use Rattle.list_elements.specs.Elements.{most_elements}
 abbrev pub LinesAre : Type 0
 LinesAre = (s : List ℕ) → 0 < length s → lines s ≡ first_line s ∷ lines (after_line s)
 
--- ---- element lines in document 01's words
+-- ---- element lines in the rules' words
 
 -- 'Numbers have an optional − and 1 to 18 digits'
 pub data Number : List ℕ → ℤ → Type 0 where

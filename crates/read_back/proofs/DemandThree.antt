@@ -1,4 +1,4 @@
--- Demand 3 of the order, proved.
+-- 'Stars and reading back', proved.
 -- Assumes nothing.
 use mathlib.Core.Path.{◌≡◌, refl, sym, ap, subst, ◌∙◌}
 use mathlib.Core.Logic.{◌↔◌}

@@ -1,4 +1,4 @@
--- Demand 3 of the order, word by word, over the walk and the numerals of demand 2.
+-- The rules, 'Stars and reading back', word by word, over the walk and the numerals.
 -- Assumes nothing.
 use Rattle.std.specs.Prelude.{◌≡◌, ◌↔◌, true, List, [], ◌∷◌, ◌++◌, map, ℕ, ◌*◌, ◌≤◌, length, take, get_or, replicate}
 use Rattle.buffer.specs.Characters.{asterisk}

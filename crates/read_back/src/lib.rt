@@ -1,2 +1,2 @@
-// Demand 3 of the owner's order, stated in specs/ and proved in proofs/: it has no code.
+// 'Stars and reading back' of the rules, stated in specs/ and proved in proofs/: it has no code.
 #![tactic(auto)]

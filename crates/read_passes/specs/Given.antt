@@ -1,4 +1,4 @@
--- Document 01, 'Fields read': what each placement of the walk gives in reading, and the shown value.
+-- The rules, 'Fields read': what each placement of the walk gives in reading, and the shown value.
 -- Assumes nothing.
 use Rattle.std.specs.Prelude.{Bool, cond, List, [], ◌∷◌, ℕ, ℤ, get_or, Option, Some, None}
 use Rattle.field_written.specs.Numeral.{Numeric}

@@ -1,4 +1,4 @@
--- Document 01, 'Sheet examples': those marked M.
+-- The rules, 'Sheet examples': those marked M.
 -- Assumes nothing.
 use Rattle.std.specs.Prelude.{◌≡◌, cond, List, [], ◌∷◌, map, ℕ, eqb, length, replicate, ℤ, pos, neg_ℤ, None}
 use Prim.Native.String.{String}
@@ -27,7 +27,7 @@ computed (read w d t u s) =
     let r = cond (eqb (length (bytes t)) w) (read_field (F d) (bytes t)) None in
     reads (read_refusal r) (read_units r) (read_places r)
 
--- by the paper
+-- by the rules
 unfoldable pub stated : Example → Answer
 stated (integer w n t k) = writes (bytes t) k
 stated (decimal w d u s t k) = writes (bytes t) k

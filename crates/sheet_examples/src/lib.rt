@@ -1,2 +1,2 @@
-// The marked examples of document 01: definitions and one theorem, no code.
+// The marked examples of the rules: definitions and one theorem, no code.
 #![tactic(auto)]

@@ -1,4 +1,4 @@
--- Document 01, 'The list', 'The walk' and 'Checks by place': reading. The outcome, the list given and the text area afterwards,
+-- The rules, 'The list', 'The walk' and 'Checks by place': reading. The outcome, the list given and the text area afterwards,
 -- for every record width R, format, list of wanted elements, text area and records.
 -- Assumes nothing.
 use Rattle.std.specs.Prelude.{cond, List, [], ◌∷◌, map, ℕ, ◌/◌, leb, length, Result, Ok, Err}
@@ -84,7 +84,7 @@ read_list R format wanted area records = list_given (reading R format wanted (le
 abbrev pub read_area : ℕ → List ℕ → carried.List → List ℕ → List ℕ → List ℕ
 read_area R format wanted area records = area_of area (reading R format wanted (length area) records)
 
--- ---- document 01's number, place, records and starred of a reading (those of the code's answer are in `Answers` of `sheet_walk`):
+-- ---- the rules' number, place, records and starred of a reading (those of the code's answer are in `Answers` of `sheet_walk`):
 -- 'A refusal carries number and place, and besides them zero records, zero starred, no values'; 0 where an accepted reading has no
 -- number and place
 

@@ -1,4 +1,4 @@
--- Document 01, 'Checks by place': the rows before the walk, once for every call that walks; and the walk under a format's text.
+-- The rules, 'Checks by place': the rows before the walk, once for every call that walks; and the walk under a format's text.
 -- Assumes nothing.
 use Rattle.std.specs.Prelude.{cond, List, [], ◌∷◌, ℕ, ◌/◌, eqb, Ok, Err}
 use Rattle.format_grammar.specs.Check as formats

@@ -1,4 +1,4 @@
--- Document 01: writing, 'the list as list text', which is its own text area. The outcome and the buffer afterwards, for every
+-- The rules: writing, 'the list as list text', which is its own text area. The outcome and the buffer afterwards, for every
 -- record width R, format, list text and buffer.
 -- Assumes nothing.
 use Rattle.std.specs.Prelude.{List, ℕ, length}

@@ -1,4 +1,4 @@
--- Document 01, program `trimsheet`, its input: 'a line with R, a line with the format, then the list text'.
+-- The rules, program `trimsheet`, its input: 'a line with R, a line with the format, then the list text'.
 -- Assumes nothing.
 use Rattle.std.specs.Prelude.{cond, List, ℕ}
 use Rattle.number.specs.Digits.{value}

@@ -1,4 +1,4 @@
--- Document 01, program `trimsheet`, its output: 'each record and a line feed, then `records` and `starred` with their counts, or
+-- The rules, program `trimsheet`, its output: 'each record and a line feed, then `records` and `starred` with their counts, or
 -- one line `refused`, number, place, single blanks between'.
 -- Assumes nothing.
 use Rattle.std.specs.Prelude.{List, [], ◌∷◌, ◌++◌, ℕ, zero, suc, take, drop}

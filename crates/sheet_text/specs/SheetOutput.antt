@@ -1,4 +1,4 @@
--- Document 01, program `trimsheet`: its whole output for its whole input.
+-- The rules, program `trimsheet`: its whole output for its whole input.
 -- Assumes nothing.
 use Rattle.std.specs.Prelude.{List, ℕ}
 use Rattle.sheet_write.specs.Writing.{Writing}

@@ -10,7 +10,7 @@ use lib.ListN.{get_or-map}
 use Rattle.format_items.specs.Items.{Field}
 use Rattle.format_items.specs.Met.{Met}
 use Rattle.format_items.specs.MetRanges.{MetWithin, AllMetWithin}
-pub use Rattle.format_items.proofs.MetWithinLaws.{drop_within}
+use Rattle.format_items.proofs.MetWithinLaws.{drop_within}
 use Rattle.format_words.specs.Words.{met_of, RunWord}
 use Rattle.format_words.specs.declared.Word.{Word}
 use Rattle.format_words.specs.declared.Word.TheVariants as word

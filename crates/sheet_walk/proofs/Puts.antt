@@ -11,8 +11,8 @@ use Rattle.sheet_walk.specs.declared.walk.Walk.{Walk}
 use Rattle.sheet_walk.specs.Walk.{Trace, put, done, stopped}
 use Rattle.sheet_walk.specs.Given.{items_of, given_sheet}
 use Rattle.sheet_walk.specs.Promises.{Walkable}
-use Rattle.sheet_walk.proofs.Following.{drop_within}
 use Rattle.sheet_walk.specs.Followed.{GoesBy, sheet_of, left_of, CoverIs, CoversNext, NextIs}
+use Rattle.format_items.proofs.MetWithinLaws.{drop_within}
 
 -- how many placements a walk has
 unfoldable pub puts : Trace → ℕ

@@ -7,9 +7,7 @@ use Prim.Native.Nat.{ℕ, ◌+◌, ◌<◌, max, min}
 use native.Mathlib.Omega.{arith}
 use borrow.Author.Tests.{ltb-true, lt-ltb, eqb-true, eq-eqb}
 use lib.Dec.{eqb, ltb}
-use Rattle.std.proofs.lemmas.Bool.{or_cases, or_left, or_right}
-pub use Rattle.std.proofs.lemmas.Bool.{or_parts as neither}
-use Rattle.buffer.proofs.Tests.{and_true}
+use Rattle.std.proofs.lemmas.Bool.{or_cases, or_left, or_right, or_parts, and_parts}
 use Rattle.sheet_walk.specs.Steps.{Placement}
 use Rattle.sheet_walk.specs.Walk.{Trace, put, done, stopped}
 use Rattle.sheet_walk.specs.Columns.{Covers, In, here, there, CoveredTwice, share, shares_with, covered_twice}
@@ -23,7 +21,7 @@ meeting p q = max p.column q.column
 
 pub share_covers : (p q : Placement) → share p q ≡ true → Covers p p.row (meeting p q) × Covers q p.row (meeting p q)
 share_covers p q e =
-    let t = and_true (eqb p.row q.row) (ltb (meeting p q) (min (p.column + p.width) (q.column + q.width))) e in
+    let t = and_parts (eqb p.row q.row) (ltb (meeting p q) (min (p.column + p.width) (q.column + q.width))) e in
     let r : p.row ≡ q.row = eqb-true _ _ t.0 in
     let l : meeting p q < min (p.column + p.width) (q.column + q.width) = ltb-true _ _ t.1 in (
       record { in-record = refl; from = omega arith; to = omega arith },
@@ -57,8 +55,8 @@ in-shares p (there {q} {t} m) e = or_right (share p q) (shares_with p t) (in-sha
 
 pub apart_in : (p : Placement) {q : Placement} {t : Trace} → In q t → shares_with p t ≡ false → share p q ≡ false
 unfolding shares_with
-apart_in p {q} (here {t}) e = (neither (share p q) (shares_with p t) e).0
-apart_in p (there {q} {t} m) e = apart_in p m (neither (share p q) (shares_with p t) e).1
+apart_in p {q} (here {t}) e = (or_parts (share p q) (shares_with p t) e).0
+apart_in p (there {q} {t} m) e = apart_in p m (or_parts (share p q) (shares_with p t) e).1
 
 -- ---- a walk
 

@@ -6,16 +6,16 @@ use mathlib.Core.Bool.{Bool, true, false}
 use Prim.Native.Nat.{ℕ}
 use borrow.Author.Tests.{le-leb, leb-true}
 use lib.Dec.{leb}
-use Rattle.buffer.proofs.Tests.{and_true}
 use Rattle.sheet_walk.specs.Steps.{widest_record, width_right}
 use Rattle.sheet_walk.specs.declared.Refusal.{Refusal}
 use Rattle.sheet_walk.specs.declared.Refusal.TheVariants.{RecordWidth}
 use Rattle.sheet_walk.specs.declared.width.Width.{Width}
 use Rattle.sheet_walk.specs.Promises.{WidthRight, WidthRightIs}
+use Rattle.std.proofs.lemmas.Bool.{and_parts}
 
 pub width_passed : (R : ℕ) → width_right R ≡ true → WidthRight R
 width_passed R e =
-    let r = and_true (leb 1 R) (leb R widest_record) e in
+    let r = and_parts (leb 1 R) (leb R widest_record) e in
     record { from = leb-true 1 R r.0; to = leb-true R widest_record r.1 }
 
 pub width_right_lem : (R : ℕ) → WidthRight R → width_right R ≡ true

@@ -19,7 +19,8 @@ use Rattle.sheet_walk.specs.Columns.{In, here, there, share, shares_with, covere
 use Rattle.sheet_walk.specs.Laid.{offset_of, laid, columns}
 use Rattle.sheet_walk.specs.Promises.{Inside, ColumnsKept}
 use Rattle.buffer.proofs.SpliceBytes.{length_splice, splice_before, splice_inside, splice_after}
-use Rattle.sheet_walk.proofs.Twice.{neither, apart_in, meeting}
+use Rattle.sheet_walk.proofs.Twice.{apart_in, meeting}
+use Rattle.std.proofs.lemmas.Bool.{or_parts}
 
 -- ---- where placements stand in a buffer
 
@@ -112,13 +113,13 @@ module _ (R n : ℕ) (characters : Placement → List ℕ) where
   laid_inside {p} (here {t}) buffer room all once i h =
       let l = length_one p t buffer room all in
       let e = (all p here).1 in
-      let once₁ = (neither (shares_with p t) (covered_twice t) once).0 in
+      let once₁ = (or_parts (shares_with p t) (covered_twice t) once).0 in
       laid_outside t (laid_one p buffer) (omega arith) (λ q m. all q (there m)) (offset_of R p + i)
       (λ q m. apart R n p q (all p here).0 (all q (there m)).0 (apart_in p m once₁) i h)
       ∙ splice_inside buffer (offset_of R p) (characters p) (fits_one p t buffer room all) i (omega arith)
   laid_inside (there {q} {t} m) buffer room all once i h =
       let l = length_one q t buffer room all in
-      laid_inside m (laid_one q buffer) (omega arith) (λ r k. all r (there k)) (neither (shares_with q t) (covered_twice t) once).1 i h
+      laid_inside m (laid_one q buffer) (omega arith) (λ r k. all r (there k)) (or_parts (shares_with q t) (covered_twice t) once).1 i h
 
 pub columns_kept : ColumnsKept
 columns_kept R n characters t buffer once room all p m =

@@ -1,4 +1,4 @@
--- Document 01, 'The walk' and 'Checks by place': number, place, records and starred of an answer.
+-- The rules, 'The walk' and 'Checks by place': number, place, records and starred of an answer.
 -- Assumes nothing.
 use Rattle.std.specs.Prelude.{ℕ, Result, Ok, Err}
 use Rattle.sheet_walk.specs.Refusals.{refusal_number, refusal_place}

@@ -1,4 +1,4 @@
--- Document 01, 'The walk': columns covered, and covered twice.
+-- The rules, 'The walk': columns covered, and covered twice.
 -- Assumes nothing.
 use Rattle.std.specs.Prelude.{Bool, false, ◌&&◌, ◌||◌, ℕ, ◌+◌, ◌<◌, ◌≤◌, max, min, eqb, ltb, ◌≡◌}
 use Rattle.sheet_walk.specs.Steps.{Placement}

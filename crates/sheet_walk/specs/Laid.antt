@@ -1,4 +1,4 @@
--- Document 01, 'The walk': what a walk leaves in the records.
+-- The rules, 'The walk': what a walk leaves in the records.
 -- Assumes nothing.
 use Rattle.std.specs.Prelude.{List, ℕ, ◌+◌, ◌-◌, ◌*◌, take, drop, replicate}
 use Rattle.buffer.specs.Characters.{blank}

@@ -1,4 +1,4 @@
--- Document 01, 'Checks by place': the columns 'No.' and 'Place' of a sheet's refusals.
+-- The rules, 'Checks by place': the columns 'No.' and 'Place' of a sheet's refusals.
 -- Assumes nothing.
 use Rattle.std.specs.Prelude.{ℕ}
 use Rattle.format_items.specs.Refusals as format

@@ -1,4 +1,4 @@
--- Document 01, 'The walk': what each item does.
+-- The rules, 'The walk': what each item does.
 -- Assumes nothing.
 use Rattle.std.specs.Prelude.{Bool, true, false, ◌&&◌, ◌||◌, cond, List, [], ◌∷◌, ℕ, ◌+◌, ◌/◌, leb, ltb, length, drop}
 use Rattle.format_items.specs.Items.{Field}

@@ -1,4 +1,4 @@
--- Document 01, 'The walk': the whole walk, once for writing and reading. It goes by the kinds and text lengths of the list,
+-- The rules, 'The walk': the whole walk, once for writing and reading. It goes by the kinds and text lengths of the list,
 -- and says what is covered where, in order, and how it ends.
 -- Assumes nothing.
 use Rattle.std.specs.Prelude.{List, [], ◌∷◌, ℕ, zero, suc, ◌+◌, length}

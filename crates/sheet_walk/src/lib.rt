@@ -9,7 +9,7 @@ pub mod width;
 use format_items::FormatRefusal;
 use format_words::Word;
 
-// A sheet refused: rows of document 01's 'Checks by place'.
+// A sheet refused: rows of the rules' 'Checks by place'.
 #[derive(Clone, Copy, PartialEq, Eq, Debug)]
 pub enum Refusal {
     RecordWidth,

@@ -1,4 +1,4 @@
-// Refusals as document 01 numbers and places them.
+// Refusals as the rules number and place them.
 ghost use Rattle.std.specs.Prelude.{◌≡◌};
 ghost use Rattle.sheet_walk.specs.declared.Refusal.TheVariants.{Format, Element};
 

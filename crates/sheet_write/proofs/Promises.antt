@@ -60,7 +60,7 @@ placed_right c t n e p m =
     let fit = all_fit a p m in
     (fit.0, fit.1, all_suited a p m)
 
--- ---- demand 3 of the order, first half
+-- ---- 'Stars and reading back', first half
 
 pub stars_exactly_when : StarsExactlyWhen
 stars_exactly_when c t n e p m i f q g = rw q (field_stars c.area (values_of c) i f p.width (all_suited (acceptable c t n e) p m i f q) g)

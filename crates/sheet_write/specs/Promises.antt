@@ -137,7 +137,7 @@ PlacedRight =
     × (length (characters c.area (values_of c) p) ≡ p.width)
     × ((i : ℕ) (f : Field ℕ) → p.what ≡ element i f → Suited (map kind_of (values_of c)) i f p.width)
 
--- ---- which fields are starred (demand 3 of the order as a whole is `DemandThree` of `read_back`)
+-- ---- which fields are starred ('Stars and reading back' as a whole is `DemandThree` of `read_back`)
 
 abbrev pub numeric : Field ℕ → Bool
 numeric (Field.I w) = true
@@ -159,14 +159,14 @@ StarsExactlyWhen =
     (c : Call) (t : Trace) (n : ℕ) → becomes c ≡ accepts t n → (p : Placement) → In p t → (i : ℕ) (f : Field ℕ) → p.what ≡ element i f
     → numeric f ≡ true → (characters c.area (values_of c) p ≡ replicate p.width asterisk) ↔ NoNumeral (value_at (values_of c) i) f
 
--- the characters cs are the numeral of a field's width that stands for the value, written as document 01 has it
+-- the characters cs are the numeral of a field's width that stands for the value, written as the rules have it
 pub data Shows (v : Value) (cs : List ℕ) : Field ℕ → Type 0 where
   integer_shown : {n : ℤ} {w : ℕ} (t : Numeral plain Numeric.I w) → v ≡ value.Integer n → numeral.characters t ≡ cs → AsWritten plain Numeric.I w n t
       → Shows v cs (Field.I w)
   decimal_shown : {x : Decimal} {w d : ℕ} {r : ℤ} (t : Numeral plain (Numeric.F d) w) → v ≡ value.Decimal x → Nearest x.units x.places d r
       → numeral.characters t ≡ cs → AsWritten plain (Numeric.F d) w r t → Shows v cs (Field.F w d)
 
--- where some numeral of the field's width stands for the value, the field is the one that document 01 describes
+-- where some numeral of the field's width stands for the value, the field is the one that the rules describe
 abbrev pub NumeralsShown : Type 0
 NumeralsShown =
     (c : Call) (t : Trace) (n : ℕ) → becomes c ≡ accepts t n → (p : Placement) → In p t → (i : ℕ) (f : Field ℕ) → p.what ≡ element i f

@@ -1,4 +1,4 @@
--- Document 01, 'The walk' and 'Checks by place': writing. The outcome and the buffer afterwards, for every record width R,
+-- The rules, 'The walk' and 'Checks by place': writing. The outcome and the buffer afterwards, for every record width R,
 -- format, list, text area and buffer.
 -- Assumes nothing.
 use Rattle.std.specs.Prelude.{List, map, ℕ, ◌/◌, length, Ok, Err}
@@ -59,7 +59,7 @@ write_answer R format l area buffer = answer_of (values l) (writing R format l a
 abbrev pub write_buffer : ℕ → List ℕ → carried.List → List ℕ → List ℕ → List ℕ
 write_buffer R format l area buffer = buffer_of R area (values l) buffer (writing R format l area (length buffer))
 
--- ---- document 01's number, place, records and starred of a writing (those of the code's answer are in `Answers` of `sheet_walk`):
+-- ---- the rules' number, place, records and starred of a writing (those of the code's answer are in `Answers` of `sheet_walk`):
 -- 'A refusal carries number and place, and besides them zero records, zero starred'; 0 where an accepted writing has no number
 -- and place
 

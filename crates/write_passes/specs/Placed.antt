@@ -1,4 +1,4 @@
--- Document 01, 'Fields written': what each placement of the walk puts into its columns in writing.
+-- The rules, 'Fields written': what each placement of the walk puts into its columns in writing.
 -- Assumes nothing.
 use Rattle.std.specs.Prelude.{Bool, false, cond, List, ℕ, ◌+◌, ℤ, pos, get_or}
 use Rattle.number.specs.Rounding.{rounded_units, too_large}

@@ -79,7 +79,7 @@ impl<'a, C: Calls> Harness<'a, C> {
         unchanged("write", case, actual, &case.buffer, &buffer)?;
         if actual.number == 0 {
             let outcome = readback::check(&mut self.random, self.calls, case, actual, &buffer);
-            let outcome = outcome.map_err(|what| difference("demand 3", case, what, Bytes(&buffer)))?;
+            let outcome = outcome.map_err(|what| difference("stars and reading back", case, what, Bytes(&buffer)))?;
             self.tally.count_outcome(outcome);
         }
         Ok(())

@@ -1,4 +1,4 @@
-//! Demand 3: asterisks exactly where no numeral stands for the rounded value,
+//! 'Stars and reading back' of the rules: asterisks exactly where no numeral stands for the rounded value,
 //! and records that read back as the shown values.
 
 use crate::calls::{Answer, Calls, List};
@@ -16,7 +16,7 @@ pub enum Outcome {
     CoveredTwice,
 }
 
-/// Checks demand 3 on an accepted writing; `buffer` is as the writing left it.
+/// Checks 'Stars and reading back' on an accepted writing; `buffer` is as the writing left it.
 pub fn check(
     random: &mut Random,
     calls: &impl Calls,
@@ -170,7 +170,7 @@ mod tests {
     use super::*;
     use std::collections::BTreeSet;
 
-    /// The value that the characters stand for under document 01's words on
+    /// The value that the characters stand for under the rules' words on
     /// numerals, or nothing: blanks, a sign or none, digits and a point.
     fn stands_for(characters: &[u8], d: Option<usize>) -> Option<i64> {
         let text = std::str::from_utf8(characters).unwrap().trim_start_matches(' ');

@@ -14,7 +14,7 @@ use crate::walk::{self, Met};
 pub enum Verdict {
     /// The same records, or both refuse.
     Same,
-    /// Not the same, as these rules of document 01 explain to the byte.
+    /// Not the same, as these rules explain to the byte.
     Known(Vec<Class>),
     Unexplained(String),
 }
@@ -177,12 +177,12 @@ fn fields(compiler: Compiler, reading: &Reading, expected: &Result<Vec<Got>, Ref
     }
 }
 
-/// Every known difference in reading is a field that document 01 refuses.
+/// Every known difference in reading is a field that the rules refuse.
 fn explained(classes: Vec<Class>, expected: &Result<Vec<Got>, Refusal>) -> Verdict {
     if expected.is_err() {
         return Verdict::Known(classes);
     }
-    Verdict::Unexplained("the library accepts what document 01 refuses".to_string())
+    Verdict::Unexplained("the library accepts what the rules refuse".to_string())
 }
 
 /// flang lets a slash go past the last record if nothing is read there.

@@ -1,4 +1,4 @@
-//! The known differences: each by its rule of document 01, and what the compiler does instead, to the byte.
+//! The known differences: each by its rule, and what the compiler does instead, to the byte.
 
 use crate::calls::{self, Value};
 use crate::compiler::Compiler;
@@ -58,7 +58,7 @@ pub fn alone(field: Field, value: Value, area: &[u8], width: u64) -> Vec<u8> {
     record
 }
 
-/// What a compiler is known to write for a decimal, and why, where it is not what document 01 asks.
+/// What a compiler is known to write for a decimal, and why, where it is not what the rules ask.
 pub fn decimal_written(compiler: Compiler, w: u64, d: u64, units: i64, places: u64) -> Option<(Vec<u8>, Vec<Class>)> {
     match compiler {
         Compiler::Gfortran => None,
@@ -126,10 +126,10 @@ fn without_zero(field: &[u8]) -> Option<Vec<u8>> {
 /// What a compiler makes of a field that it reads.
 #[derive(Clone, Debug, PartialEq)]
 pub enum Read {
-    /// As document 01: this value, or refused.
+    /// As the rules: this value, or refused.
     Value(Got),
     Refused,
-    /// Otherwise than document 01, for this reason.
+    /// Otherwise than the rules, for this reason.
     Known(Got, Class),
     /// Not foreseen; such fields are not given to compilers.
     Unsure,
@@ -207,7 +207,7 @@ fn dropped(bytes: &[u8]) -> Vec<u8> {
     bytes.iter().copied().filter(|&byte| byte != b' ').collect()
 }
 
-/// What document 01 refuses under L: compilers read small letters too.
+/// What the rules refuse under L: compilers read small letters too.
 fn logical_refused(bytes: &[u8]) -> Read {
     let rest: Vec<u8> = bytes.iter().copied().skip_while(|&byte| byte == b' ').collect();
     let letter = if rest.first() == Some(&b'.') { rest.get(1) } else { rest.first() };
@@ -232,7 +232,7 @@ fn comma(field: Field, bytes: &[u8], last: bool) -> Read {
     }
 }
 
-/// What document 01 refuses under I. gfortran reads a lone sign only where a blank follows.
+/// What the rules refuse under I. gfortran reads a lone sign only where a blank follows.
 fn integer_refused(compiler: Compiler, bytes: &[u8]) -> Read {
     let left = dropped(bytes);
     let digits = left.strip_prefix(b"-").or(left.strip_prefix(b"+")).unwrap_or(&left);
@@ -248,7 +248,7 @@ fn integer_refused(compiler: Compiler, bytes: &[u8]) -> Read {
     }
 }
 
-/// What document 01 refuses under F.
+/// What the rules refuse under F.
 fn decimal_refused(compiler: Compiler, d: u64, bytes: &[u8]) -> Read {
     let left = String::from_utf8(dropped(bytes)).expect("ASCII");
     let (sign, rest) = match left.chars().next() {

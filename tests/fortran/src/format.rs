@@ -27,7 +27,7 @@ pub struct Dialect {
     pub skips_for_literals: bool,
 }
 
-/// The format's text as document 01 has it.
+/// The format's text as the rules have it.
 pub fn text(items: &[Item]) -> Vec<u8> {
     text_in(items, Dialect::default())
 }

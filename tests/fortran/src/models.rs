@@ -10,7 +10,7 @@ use crate::walk::{self, Layout, Met};
 /// What untouched bytes of the records hold: no character of a sheet.
 pub const FILL: u8 = 1;
 
-/// The characters of each item met, as document 01 asks or as a compiler writes them, and the reasons.
+/// The characters of each item met, as the rules ask or as a compiler writes them, and the reasons.
 fn characters(sheet: &Sheet, steps: &[Met], compiler: Option<Compiler>) -> (Vec<Vec<u8>>, Vec<Class>) {
     let lengths = sheet.lengths();
     let mut classes = Vec::new();
@@ -39,7 +39,7 @@ fn deviating(compiler: Option<Compiler>, field: Field, value: Value) -> Option<(
     }
 }
 
-/// The internal file with these items put where document 01 has them, with these characters.
+/// The internal file with these items put where the rules have them, with these characters.
 fn laid(sheet: &Sheet, layout: &Layout, texts: &[Vec<u8>]) -> Vec<u8> {
     let width = sheet.width as usize;
     let mut out = vec![FILL; sheet.records as usize * width];
@@ -51,7 +51,7 @@ fn laid(sheet: &Sheet, layout: &Layout, texts: &[Vec<u8>]) -> Vec<u8> {
     out
 }
 
-/// The internal file that document 01 asks for, put together field by field.
+/// The internal file that the rules ask for, put together field by field.
 pub fn asked(sheet: &Sheet) -> Vec<u8> {
     let steps = sheet.steps();
     laid(sheet, &sheet.layout(), &characters(sheet, &steps, None).0)
@@ -211,7 +211,7 @@ pub enum Foreseen {
     Unsure,
 }
 
-/// The fields are where document 01 has them; each is read as the compiler is known to read it.
+/// The fields are where the rules have them; each is read as the compiler is known to read it.
 pub fn read(compiler: Compiler, sheet: &Sheet, records: &[u8]) -> Foreseen {
     let (steps, lengths) = (sheet.steps(), sheet.lengths());
     let (mut values, mut classes) = (Vec::new(), Vec::new());

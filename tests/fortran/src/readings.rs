@@ -33,7 +33,7 @@ pub struct Reading {
     pub aim: Aim,
 }
 
-/// A reading that every compiler is foreseen to take in a known way; nine of ten as document 01 does.
+/// A reading that every compiler is foreseen to take in a known way; nine of ten as the rules do.
 pub fn reading(rng: &mut Random, compiler: Compiler) -> Reading {
     let plain = !rng.one_in(10);
     loop {

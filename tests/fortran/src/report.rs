@@ -87,7 +87,7 @@ impl Report {
 
     pub fn finish(&self) -> Result<(), String> {
         if self.unexplained > 0 {
-            return Err(format!("{} differences not explained by document 01", self.unexplained));
+            return Err(format!("{} differences not explained by the rules", self.unexplained));
         }
         if self.equal * 100 < self.compared * LEAST {
             return Err(format!("only {} of {} exactly equal", self.equal, self.compared));

@@ -1,4 +1,4 @@
-//! The items that a walk meets, in order, and where document 01 puts them.
+//! The items that a walk meets, in order, and where the rules put them.
 //! The order does not depend on columns, so it holds for every compiler.
 
 use crate::format::{Field, Item};

@@ -83,7 +83,7 @@ fn text(text: &[u8], w: usize) -> Vec<u8> {
 
 /// The value in a field's bytes, of the wanted kind; a text's characters go to
 /// the end of `texts`, which is also where the text is in the area. Nothing if
-/// the field is not as document 01 says.
+/// the field is not as the rules say.
 pub fn read(field: Field, wanted: Value, bytes: &[u8], texts: &mut Vec<u8>) -> Option<Value> {
     match (field, wanted) {
         (Field::Integer { .. }, _) => read_integer(bytes).map(Value::Integer),

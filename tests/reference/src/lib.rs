@@ -1,4 +1,4 @@
-//! Trim sheet editing by FORTRAN format, written from document 01 alone.
+//! Trim sheet editing by FORTRAN format, written from the rules alone.
 //!
 //! `write` and `read` carry a list to records and back; `check` looks at a
 //! format; `list_text`, `sheet`, `host_write` and `host_check` are the calls

@@ -1,4 +1,4 @@
-//! The examples of document 01, and corners of its rules.
+//! The examples of the rules, and corners of the rules.
 
 use reference::trace::{fields_met, trace, Shown};
 use reference::Value::{Decimal, Integer, Logical, Text};
