@@ -2,21 +2,17 @@
 -- Assumes nothing.
 use mathlib.Core.Path.{◌≡◌, refl, ap, ◌∙◌}
 use mathlib.Core.List.{List}
-use Prim.Native.Nat.{ℕ, ◌/◌}
-use lib.ListN.{length}
+use Prim.Native.Nat.{ℕ}
 use Rattle.format_items.specs.Items.{Items}
-use Rattle.format_grammar.specs.Check.{outcome}
 use Rattle.list_elements.specs.Contents.{Content}
-use Rattle.list_elements.specs.Limits.{wanted_check}
 use Rattle.sheet_walk.specs.Walk.{Trace}
 use Rattle.sheet_walk.specs.declared.Refusal.{Refusal}
 use Rattle.sheet_walk.specs.declared.Refusal.TheVariants.{FieldText}
-use Rattle.sheet_rows.specs.Rows.{refused, format_row, rows_before}
 use Rattle.sheet_rows.proofs.RowLaws.{row_answers}
 use Rattle.read_passes.specs.Given.{gathered}
 use Rattle.read_passes.proofs.GatheredLaws.{Refuses, gathers_so, refuses_so, readable_gathers, readable_refuses}
 use Rattle.sheet_walk.specs.Answers.{answer_number, answer_place}
-use Rattle.sheet_read.specs.Reading.{Reading, accepts, refuses, concluded, wanted_rows, reading_of, answer_of}
+use Rattle.sheet_read.specs.Reading.{Reading, accepts, refuses, concluded, reading_of, answer_of}
 use Rattle.sheet_read.specs.Promises.{Call, kinds_of, becomes, answer_to, Walks, RowBefore, walk_of, UnreadableAt, AcceptableCall, AnsweredBy}
 use Rattle.sheet_read.proofs.Calls.{GathersOn, RefusesOn, rows_said, walk_is}
 

@@ -8,9 +8,9 @@ use format_words::run::Run;
 use list_elements::texts::texts_fit;
 use list_elements::{BadElement, Element};
 use read_passes::reading::read_pass;
+use sheet_walk::Refusal;
 use sheet_walk::records::Records;
 use sheet_walk::width::Width;
-use sheet_walk::Refusal;
 
 // Under a format that was loaded, if the wanted elements are good, their texts have room and there is a record: rows 6, 13 and
 // 9, and the walk. Not inlined: compiled into the closure below, it takes up to 9 of 100 instructions more.

@@ -10,7 +10,6 @@ use lib.Dec.{eqb}
 use Rattle.std.specs.Prelude.{Ok, Err}
 use Rattle.buffer.proofs.Tests.{no_way}
 use Rattle.format_items.specs.Items.{Items}
-use Rattle.format_items.specs.declared.FormatRefusal.{FormatRefusal}
 use Rattle.format_grammar.specs.Check as formats
 use Rattle.format_grammar.specs.Promises as grammar
 use Rattle.format_grammar.specs.Promises.{Acceptable}

@@ -1,6 +1,6 @@
 -- The rules, 'Checks by place': the rows before the walk, once for every call that walks; and the walk under a format's text.
 -- Assumes nothing.
-use Rattle.std.specs.Prelude.{cond, List, [], ◌∷◌, ℕ, ◌/◌, eqb, Ok, Err}
+use Rattle.std.specs.Prelude.{cond, List, [], ◌∷◌, ℕ, eqb, Ok, Err}
 use Rattle.format_grammar.specs.Check as formats
 use Rattle.list_elements.specs.Limits.{ListCheck}
 use Rattle.list_elements.specs.Elements.{Kind}

@@ -1,7 +1,6 @@
 -- The whole output, from what its parts do.
 -- Assumes nothing.
 use mathlib.Core.Path.{◌≡◌, refl, sym, ap, ◌∙◌}
-use mathlib.Core.Bool.{false}
 use mathlib.Core.List.{List, [], ◌++◌}
 use Prim.Native.Nat.{ℕ, ◌+◌, ◌*◌, ◌≤◌}
 use native.Mathlib.Omega.{arith}
@@ -10,12 +9,10 @@ use Rattle.buffer.specs.Splice.{splice}
 use Rattle.buffer.proofs.Splicing.{splice_then}
 use Rattle.list_elements.proofs.ContentLaws.{values_list}
 use Rattle.list_elements.specs.declared.Value.{Value}
-use Rattle.sheet_walk.specs.Steps.{width_right}
 use Rattle.sheet_walk.specs.Walk.{Trace}
 use Rattle.sheet_walk.specs.Laid.{written}
 use Rattle.sheet_walk.specs.Refusals.{refusal_number, refusal_place}
 use Rattle.sheet_walk.specs.declared.Refusal.{Refusal}
-use Rattle.sheet_walk.specs.declared.Refusal.TheVariants as refusal
 use Rattle.sheet_walk.specs.Answers.{Answer}
 use Rattle.sheet_walk.specs.declared.Counts.{Counts}
 use Rattle.std.specs.Prelude.{Ok, Err}
@@ -23,9 +20,8 @@ use Rattle.sheet_walk.proofs.Windows.{AllFit}
 use Rattle.write_passes.specs.Placed.{characters, starred_in}
 use Rattle.sheet_write.specs.Writing.{Writing, accepts, refuses, answer_of, buffer_of}
 use Rattle.sheet_write.proofs.Promises.{placed_right}
-use Rattle.sheet_write.proofs.WriteLaws.{width_refuses}
 use Rattle.list_text.specs.Lines.{first_line}
-use Rattle.list_text.specs.ListText.{line_values, line_check}
+use Rattle.list_text.specs.ListText.{line_values}
 use Rattle.sheet_text.specs.FromListText.{writing_from, answer_from, buffer_from}
 use Rattle.sheet_text.specs.Input.{width_on, input_width, input_format, input_list}
 use Rattle.sheet_text.specs.Output.{record_lines, counts_line, refused_line}

@@ -8,15 +8,13 @@ use native.Mathlib.Omega.{arith}
 use mathlib.Core.Bool.{true}
 use lib.ListN.{length, take}
 use Rattle.std.specs.List.{take-map}
-use Rattle.std.specs.Prelude.{Result, Ok, Err, All}
+use Rattle.std.specs.Prelude.{Ok, Err, All}
 use Rattle.format_grammar.specs.Check.{refused, outcome}
 use Rattle.format_items.specs.declared.FormatRefusal.{FormatRefusal}
 use Rattle.list_elements.specs.Elements.{kind_of, value_of, values, most_elements}
 use Rattle.list_elements.specs.Limits.{ListCheck, good, bad, within_limits, list_check}
 use Rattle.list_elements.proofs.GoodLaws.{check_good, good_all}
-use Rattle.list_elements.specs.declared.BadElement.{BadElement}
 use Rattle.list_elements.specs.declared.Element.{Element}
-use Rattle.list_elements.specs.declared.listed.Listed.{Listed}
 use Rattle.list_elements.specs.Contents.{list_of}
 use Rattle.list_elements.proofs.ContentLaws.{values_list}
 use Rattle.list_elements.specs.declared.Value.{Value}
@@ -28,11 +26,10 @@ use Rattle.sheet_rows.specs.Rows.{Row, format_row, element_row, after_rows, walk
 use Rattle.sheet_rows.proofs.RowLaws as row
 use Rattle.sheet_rows.proofs.RowLaws.{wrong_format, wrong_format_lem, wrong_format_refused, bad_list, bad_same, after_refused}
 use Rattle.sheet_write.specs.Writing.{Writing, accepts, refuses, walked, writing_of, writing, answer_of}
-use Rattle.sheet_write.specs.Parts.{Wrote, WroteText}
 use Rattle.sheet_write.specs.Promises.{Call, becomes}
 use Rattle.sheet_write.proofs.Promises.{accepts_exactly, records_reached}
 use Rattle.sheet_walk.specs.Walk.{Trace}
-use Rattle.sheet_walk.specs.Answers.{Answer, answer_records}
+use Rattle.sheet_walk.specs.Answers.{answer_records}
 use Rattle.list_text.specs.ListText.{line_values, line_check, list_read, line_read}
 use Rattle.sheet_text.specs.FromListText.{writing_from, answer_from}
 use Rattle.sheet_text.specs.Promises.{WritingFromIs}

@@ -1,6 +1,6 @@
 -- The walk as the code follows it. (Nothing here need be believed: no public call's contract speaks of it.)
 -- Assumes nothing.
-use Rattle.std.specs.Prelude.{◌≡◌, List, ℕ, ◌+◌, ◌*◌, ◌<◌, ◌≤◌, Option, Some, None, Result, Ok, Err, drop}
+use Rattle.std.specs.Prelude.{◌≡◌, List, ℕ, ◌+◌, ◌*◌, ◌≤◌, Option, Some, None, Result, Ok, Err, drop}
 use Rattle.sheet_walk.specs.Steps as steps
 use Rattle.sheet_walk.specs.Walk.{Sheet, Trace, put, done, stopped, pass, at_end}
 use Rattle.format_words.specs.Words.{met_of}

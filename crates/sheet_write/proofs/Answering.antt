@@ -3,16 +3,13 @@
 use mathlib.Core.Path.{◌≡◌, refl, ap, subst, ◌∙◌}
 use mathlib.Core.Bool.{true, cond}
 use mathlib.Core.List.{List}
-use Prim.Native.Nat.{ℕ, ◌/◌, ◌<◌}
+use Prim.Native.Nat.{ℕ, ◌<◌}
 use borrow.Author.Tests.{lt-ltb}
 use lib.IntN.{ℤ, nat_abs}
-use lib.ListN.{length}
 use Rattle.number.specs.Limits.{largest}
 use Rattle.number.specs.Rounding.{Nearest, rounded_units, too_large}
 use Rattle.number.proofs.RoundingLaws.{rounded_is}
 use Rattle.format_items.specs.Items.{Field, Items}
-use Rattle.format_grammar.specs.Check.{outcome}
-use Rattle.list_elements.specs.Limits.{list_check}
 use Rattle.list_elements.specs.declared.Decimal.{Decimal}
 use Rattle.list_elements.specs.declared.Value.{Value}
 use Rattle.list_elements.specs.declared.Value.TheVariants as value
@@ -22,8 +19,6 @@ use Rattle.sheet_walk.specs.Walk.{Trace}
 use Rattle.sheet_walk.specs.Columns.{In, here, there}
 use Rattle.sheet_walk.specs.declared.Refusal.{Refusal}
 use Rattle.sheet_walk.specs.declared.Refusal.TheVariants.{TooLarge}
-use Rattle.sheet_rows.specs.Rows as refusing
-use Rattle.sheet_rows.specs.Rows.{format_row, element_row, rows_before}
 use Rattle.sheet_rows.proofs.RowLaws.{row_answers}
 use Rattle.write_passes.specs.Placed.{value_at, field_too_large, Judged, refused, judged_at, judged}
 use Rattle.write_passes.proofs.PlacedLaws.{judged_accepts}

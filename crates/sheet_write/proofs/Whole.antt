@@ -1,18 +1,15 @@
 -- The public call, from what its parts do.
 -- Assumes nothing.
-use mathlib.Core.Path.{◌≡◌, refl, sym, ap, ◌∙◌}
+use mathlib.Core.Path.{◌≡◌, refl, ap, ◌∙◌}
 use mathlib.Core.List.{List}
 use Prim.Native.Nat.{ℕ}
 use lib.ListN.{length}
-use Rattle.std.specs.List.{take-map}
 use Rattle.std.specs.Prelude.{Result, Ok, Err}
-use Rattle.list_elements.specs.Elements.{value_of, values}
 use Rattle.list_elements.specs.Limits.{ListCheck}
-use Rattle.list_elements.specs.Checked.{listed_as, values_in}
+use Rattle.list_elements.specs.Checked.{listed_as}
 use Rattle.list_elements.specs.declared.BadElement.{BadElement}
 use Rattle.list_elements.specs.declared.listed.Listed.{Listed}
 use Rattle.list_elements.specs.declared.Value.{Value}
-use Rattle.list_elements.specs.declared.List as carried
 use Rattle.sheet_walk.specs.Answers.{Answer, answer_number, answer_place, answer_records, answer_starred}
 use Rattle.sheet_write.specs.Writing.{Writing, accepts, refuses, writing_of, answer_of, buffer_of, writing_number, writing_place, writing_records, writing_starred}
 use Rattle.sheet_write.specs.Parts.{Wrote, WroteText}

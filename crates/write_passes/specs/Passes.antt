@@ -1,8 +1,8 @@
 -- What the passes of writing over the walk are given and answer. (Nothing here need be believed: the public call's contract does
 -- not speak of it.)
 -- Assumes nothing.
-use Rattle.std.specs.Prelude.{◌≡◌, Bool, false, List, map, ℕ, Result, Ok, Err}
-use Rattle.list_elements.specs.Elements.{value_of, kinds_of}
+use Rattle.std.specs.Prelude.{◌≡◌, Bool, false, List, ℕ, Result, Ok, Err}
+use Rattle.list_elements.specs.Elements.{kinds_of}
 use Rattle.list_elements.specs.declared.Value.{Value}
 use Rattle.list_elements.specs.declared.listed.Listed.{Listed}
 use Rattle.sheet_walk.specs.Steps.{What, element, literal}

@@ -23,17 +23,17 @@ returns-in_err-next_record c =
     let e = end_refused w c.if-self.true why c.next_record.new.self.state (end_next w c.if-self.true c.if-self-place.false c.if-not-self.false) c.in_err-next_record.was c.next_record.ensures.moves in
     rw r (c.loop-self.invariant.left ∙ e)
 
-pub loop-self-smaller-then-self : goal.loop-self-smaller-then-self
-loop-self-smaller-then-self c =
-    let w = c.loop-self.self in
-    (end_moves w c.if-self.true c.next_record.new.self c.next_record.ensures.same (end_next w c.if-self.true c.if-self-place.false c.if-not-self.false) c.in_ok-next_record.was c.next_record.ensures.moves).1
-
 pub loop-self-preserved-then-self : goal.loop-self-preserved-then-self
 loop-self-preserved-then-self c =
     let w = c.loop-self.self in
     let m = end_moves w c.if-self.true c.next_record.new.self c.next_record.ensures.same (end_next w c.if-self.true c.if-self-place.false c.if-not-self.false) c.in_ok-next_record.was c.next_record.ensures.moves in
     let s = same_on c.loop-self.invariant.same c.next_record.ensures.same in
     record { same = record { run = s.run; elements = s.elements; records = s.records }; left = c.loop-self.invariant.left ∙ m.0; taken = m.2 ∙ c.loop-self.invariant.taken }
+
+pub loop-self-smaller-then-self : goal.loop-self-smaller-then-self
+loop-self-smaller-then-self c =
+    let w = c.loop-self.self in
+    (end_moves w c.if-self.true c.next_record.new.self c.next_record.ensures.same (end_next w c.if-self.true c.if-self-place.false c.if-not-self.false) c.in_ok-next_record.was c.next_record.ensures.moves).1
 
 -- ---- at an item
 
