@@ -39,7 +39,7 @@ pub fn all() -> Vec<Case> {
     vec![small(), full(), mixed(), nests(), check("check short", short_format()), check("check long", long_format())]
 }
 
-/// The rules' example, with a decimal that binary holds exactly.
+/// The sample sheet, with a decimal that binary holds exactly.
 fn small() -> Case {
     let mut list = Elements::new();
     list.integer(7);

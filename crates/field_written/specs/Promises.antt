@@ -59,7 +59,7 @@ abbrev pub DecimalRefusedLeaves : Type 0
 DecimalRefusedLeaves =
     (g : Setting) (buffer : List ℕ) (at w d : ℕ) (u : ℤ) (s : ℕ) → put_refusal (put_decimal g w d u s) ≡ 11 → after_decimal g buffer at w d u s ≡ buffer
 
--- the same for F: where it is not refused, it is starred exactly when no numeral of width w stands for the decimal
+-- 'Stars and reading back' for F: where it is not refused, it is starred exactly when no numeral of width w stands for the decimal
 -- rounded to d places
 abbrev pub DecimalStarsExactlyWhen : Type 0
 DecimalStarsExactlyWhen =

@@ -70,11 +70,11 @@ pub record LiteralAt (s : List ℕ) (a : ℕ) (cs : List ℕ) (c : ℕ) : Type 0
 abbrev pub levels : ℕ
 levels = 4
 
--- what a rule derives: one item, or one or more. (One relation with this index stands for the two that the rules have.)
+-- what is derived: one item, or one or more. (One relation with this index stands for the two of docs/RULES.md, item and items.)
 pub data Nonterminal : Type 0 where
   item items : Nonterminal
 
--- the rules, where l levels of groups may open: all directly in the format, one fewer in each group, so none in a group of
+-- the productions, where l levels of groups may open: all directly in the format, one fewer in each group, so none in a group of
 -- level 4
 pub data Derives (s : List ℕ) : Nonterminal → ℕ → ℕ → Items → ℕ → Type 0 where
   -- 'a field, optionally with a repeat r before it'

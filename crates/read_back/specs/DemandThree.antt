@@ -84,7 +84,7 @@ ShownEach =
     × ((p : Placement) → In p t → (i : ℕ) (f : Field ℕ) → p.what ≡ element i f → (past : Content)
     → get_or (shown_values c t) i past ≡ shown f p.width (content_of c.area (value_at (values_of c) i)))
 
--- ---- the demand
+-- ---- the section's sentences
 
 pub record DemandThree : Type 0 where
   -- 'In every accepted writing, whatever the format, list, record width and buffer, a numeric field puts asterisks in all its

@@ -10,7 +10,7 @@ use number::powers::power_of_ten;
 use number::put::put_digits;
 use std::marker::Model;
 
-// The bytes of a line, its line feed included.
+// Room for a line, its line feed included.
 pub const LONGEST_LINE: usize = 96;
 
 // A line with its line feed. (Fixed memory, so an array and a length, and no `Vec`.)

@@ -20,8 +20,8 @@ impl Records {
     ghost use Rattle.std.specs.Prelude.{length};
     ghost use Rattle.sheet_walk.specs.Given.{LentAs};
 
-    // The whole records of a lent buffer, if there is one: row 9 before the walk. The least of both is the width; so the
-    // compiler knows that it is small, and a field takes less.
+    // The whole records of a lent buffer, if there is one: row 9 before the walk. The least of the width and the widest is the
+    // width; written so, the compiler knows that it is small, and a field takes less.
     #[inline(always)]
     pub fn lent(width: Width, buffer: &[u8]) -> Result<Records, Refusal>
         ensures { LentAs width.columns (length buffer.now) result }

@@ -1,4 +1,4 @@
-//! The examples of the rules, and corners of the rules.
+//! The rules' examples, and corners.
 
 use reference::trace::{fields_met, trace, Shown};
 use reference::Value::{Decimal, Integer, Logical, Text};
