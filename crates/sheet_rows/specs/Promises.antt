@@ -69,12 +69,14 @@ ElementRowSays = (check : ListCheck) → Says (element_row check) (check ≡ goo
 -- the rows before the walk, whatever the format's rows and the list's are
 abbrev pub RowsSay : Type 1
 RowsSay =
-    (R : ℕ) (format list : Row) (FP : Type 0) (FA : ℕ → ℕ → Type 0) (LP : Type 0) (LA : ℕ → ℕ → Type 0) (n : ℕ) → Says format FP FA → Says list LP LA
-    → Says (rows_before R format list n) (RowsPassed R FP LP n) (RowAnswers R FP FA LP LA n)
+    (R : ℕ) (format list : Row) (FormatPasses : Type 0) (FormatAnswers : ℕ → ℕ → Type 0) (ListPasses : Type 0) (ListAnswers : ℕ → ℕ → Type 0) (n : ℕ)
+    → Says format FormatPasses FormatAnswers
+    → Says list ListPasses ListAnswers
+    → Says (rows_before R format list n) (RowsPassed R FormatPasses ListPasses n) (RowAnswers R FormatPasses FormatAnswers ListPasses ListAnswers n)
 
 -- under a format's text, accepted as some items
 abbrev pub TextRowsSay : Type 1
 TextRowsSay =
-    (R : ℕ) (text : List ℕ) (list : Row) (LP : Type 0) (LA : ℕ → ℕ → Type 0) (n : ℕ) → Says list LP LA
-    → Says (rows_before R (format_row (outcome text)) list n) ((xs : Items) × RowsPassed R (Acceptable text xs) LP n)
-    (RowAnswers R ((xs : Items) × Acceptable text xs) (FormatRefused text) LP LA n)
+    (R : ℕ) (text : List ℕ) (list : Row) (ListPasses : Type 0) (ListAnswers : ℕ → ℕ → Type 0) (n : ℕ) → Says list ListPasses ListAnswers
+    → Says (rows_before R (format_row (outcome text)) list n) ((xs : Items) × RowsPassed R (Acceptable text xs) ListPasses n)
+    (RowAnswers R ((xs : Items) × Acceptable text xs) (FormatRefused text) ListPasses ListAnswers n)

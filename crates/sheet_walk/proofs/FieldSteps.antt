@@ -1,6 +1,6 @@
 -- The step of a field, from what its word says.
 -- Assumes nothing.
-use Rattle.std.proofs.Common.{◌≡◌, refl, sym, ap, ◌∙◌, Bool, true, false, List, ◌∷◌, ℕ, ◌+◌, ◌<◌, length, drop, get_or}
+use Rattle.std.proofs.Common.{◌≡◌, refl, sym, ap, ◌∙◌, Bool, true, false, List, [], ◌∷◌, ℕ, ◌+◌, ◌<◌, length, drop, get_or}
 use Rattle.std.proofs.lemmas.List.{length-map}
 use Rattle.std.specs.Prelude.{cond, Some, None, Ok, Err}
 use lib.ListN.{get_or-map}
@@ -18,20 +18,24 @@ use Rattle.sheet_walk.specs.declared.Refusal.TheVariants as refusal
 use Rattle.sheet_walk.specs.declared.State.{State}
 use Rattle.sheet_walk.specs.declared.Cover.{Cover}
 use Rattle.sheet_walk.specs.Steps.{Records, Step, moves, covers, refused, ends, suits, field_width, element, cover_step, field_step}
-use Rattle.sheet_walk.specs.Given.{suited_width}
+use Rattle.sheet_walk.specs.Given.{item_width, suited_width}
 use Rattle.sheet_walk.specs.Followed.{CoversAs, AnswersAs}
+
+-- the word of a field is that of the field, whatever the characters of literals are
+field_word : (t u : List ℕ) (w : Word) (f : Field ℕ) → met_of t w ≡ Met.field f → met_of u w ≡ Met.field f
+field_word t u (word.I n) f e = e
+field_word t u (word.F n d) f e = e
+field_word t u (word.L n) f e = e
+field_word t u word.A f e = e
+field_word t u (word.Aw n) f e = e
+field_word t u (word.X n) f e = e
+field_word t u (word.T n) f e = e
+field_word t u word.Slash f e = e
+field_word t u (word.Literal a n) f e = let g : ⊥ = cc in absurd g
 
 -- the columns are the field's, where its kind suits
 suited_is : (t : List ℕ) (w : Word) (f : Field ℕ) (k : Kind) → met_of t w ≡ Met.field f → suited_width w k ≡ cond (suits f k) (Some (field_width f k)) None
-suited_is t (word.I n) f k e = let g : Field.I n ≡ f = cc in ap (λ x. cond (suits x k) (Some (field_width x k)) None) g
-suited_is t (word.F n d) f k e = let g : Field.F n d ≡ f = cc in ap (λ x. cond (suits x k) (Some (field_width x k)) None) g
-suited_is t (word.L n) f k e = let g : Field.L n ≡ f = cc in ap (λ x. cond (suits x k) (Some (field_width x k)) None) g
-suited_is t word.A f k e = let g : Field.A ≡ f = cc in ap (λ x. cond (suits x k) (Some (field_width x k)) None) g
-suited_is t (word.Aw n) f k e = let g : Field.Aw n ≡ f = cc in ap (λ x. cond (suits x k) (Some (field_width x k)) None) g
-suited_is t (word.X n) f k e = let g : ⊥ = cc in absurd g
-suited_is t (word.T n) f k e = let g : ⊥ = cc in absurd g
-suited_is t word.Slash f k e = let g : ⊥ = cc in absurd g
-suited_is t (word.Literal a n) f k e = let g : ⊥ = cc in absurd g
+suited_is t w f k e = ap (λ x. item_width x k) (field_word t [] w f e)
 
 module _ (rs : Records) (s : State) (es : List Element) (t : List ℕ) (w : Word) (f : Field ℕ) (e : met_of t w ≡ Met.field f) where
   abbrev the_step : Step

@@ -1,14 +1,13 @@
 -- What a walk goes by, as the code has it. (Nothing here need be believed: no public call's contract speaks of it.)
 -- Assumes nothing.
-use Rattle.std.specs.Prelude.{◌≡◌, Bool, true, false, cond, List, [], map, ℕ, ◌/◌, Option, Some, None, Result, Ok, Err, length, drop}
+use Rattle.std.specs.Prelude.{◌≡◌, Bool, cond, List, [], map, ℕ, ◌/◌, Option, Some, None, Result, Ok, Err, length, drop}
 use Rattle.format_items.specs.Met.{Met}
 use Rattle.format_items.specs.MetRanges.{MetWithin}
 use Rattle.format_words.specs.Words.{met_of, RunWord}
 use Rattle.format_words.specs.declared.Word.{Word}
-use Rattle.format_words.specs.declared.Word.TheVariants as word
 use Rattle.format_words.specs.declared.run.Run.{Run}
-use Rattle.list_elements.specs.Elements.{Kind, kinds_of, text_length}
-use Rattle.sheet_walk.specs.Steps.{Records, records_in, What, element, literal, is_integer, is_decimal, is_logical, is_text}
+use Rattle.list_elements.specs.Elements.{Kind, kinds_of}
+use Rattle.sheet_walk.specs.Steps.{Records, records_in, What, element, literal, suits, field_width, is_field}
 use Rattle.list_elements.specs.declared.Element.{Element}
 use Rattle.sheet_walk.specs.Walk.{Sheet}
 use Rattle.sheet_walk.specs.Promises.{Suited}
@@ -20,18 +19,17 @@ use Rattle.sheet_walk.specs.declared.records.Records as code
 abbrev pub items_of : Run → List Met
 items_of r = map (met_of r.chars.now) r.words.now
 
--- the columns that a field's word covers for an element of a kind, where the kind suits it: `suits` and `field_width` of Steps, by
--- the word
+-- the columns that an item covers for an element of a kind, where it is a field that the kind suits
+abbrev pub item_width : Met → Kind → Option ℕ
+item_width (Met.field f) k = cond (suits f k) (Some (field_width f k)) None
+item_width (Met.X n) k = None
+item_width (Met.T n) k = None
+item_width Met.slash k = None
+item_width (Met.literal cs) k = None
+
+-- by its word. (Here the characters of literals do not matter.)
 abbrev pub suited_width : Word → Kind → Option ℕ
-suited_width (word.I w) k = cond (is_integer k) (Some w) None
-suited_width (word.F w d) k = cond (is_decimal k) (Some w) None
-suited_width (word.L w) k = cond (is_logical k) (Some w) None
-suited_width word.A k = cond (is_text k) (Some (text_length k)) None
-suited_width (word.Aw w) k = cond (is_text k) (Some w) None
-suited_width (word.X n) k = None
-suited_width (word.T n) k = None
-suited_width word.Slash k = None
-suited_width (word.Literal a n) k = None
+suited_width w k = item_width (met_of [] w) k
 
 -- the records of a buffer
 abbrev pub records_of : code.Records → Records
@@ -81,14 +79,6 @@ fields_of (Met.T n) = 0
 fields_of Met.slash = 0
 fields_of (Met.literal cs) = 0
 
--- whether a word is that of a field: `is_field` of Steps, by the word
+-- whether a word is that of a field
 abbrev pub word_is_field : Word → Bool
-word_is_field (word.I w) = true
-word_is_field (word.F w d) = true
-word_is_field (word.L w) = true
-word_is_field word.A = true
-word_is_field (word.Aw w) = true
-word_is_field (word.X n) = false
-word_is_field (word.T n) = false
-word_is_field word.Slash = false
-word_is_field (word.Literal a n) = false
+word_is_field w = is_field (met_of [] w)

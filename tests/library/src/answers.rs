@@ -100,7 +100,7 @@ pub fn list_text(text: &[u8]) -> ([u64; 3], [Value; SLOTS]) {
 
 /// The number of bytes put at the start of the output.
 pub fn sheet(input: &[u8], records: &mut [u8; crate::SHEET_RECORDS], output: &mut [u8; crate::SHEET_OUTPUT]) -> u64 {
-    // SAFETY: they are told nothing, and touch nothing.
+    // SAFETY: they take nothing and change nothing.
     let wanted = unsafe { (calls::test_record_buffer(), calls::test_output()) };
     assert_eq!(wanted, (records.len(), output.len()), "the buffers are as long as the call wants them");
     // SAFETY: the input's pointer comes with its length, and the buffers have the lengths just compared.
