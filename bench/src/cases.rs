@@ -108,7 +108,7 @@ fn short_format() -> Vec<u8> {
 
 fn long_format() -> Vec<u8> {
     let part = "I5,2(3X,F8.2),4X,(I6,2(L2,1X,(A4,(F10.3)))),T12,'IT''S',/";
-    format!("({})", vec![part; 8].join(",")).into_bytes()
+    format!("({})", [part; 8].join(",")).into_bytes()
 }
 
 fn check(name: &'static str, format: Vec<u8>) -> Case {

@@ -4,7 +4,7 @@
 //!     bench FOLDER right                              whether all give the same
 //!     bench FOLDER times [ROUNDS]                     processor time of a sheet
 //!     bench FOLDER repeat CONTESTANT CASE ACT TIMES   so many calls, for a profiler
-//!     bench FOLDER stack                              the deepest stack of a call
+//!     bench FOLDER stack                              the deepest stack of a call; fails where the library is over its limit
 //!
 //! FOLDER has `sheets.f` as shared libraries, gfortran.so, f2c.so and flang.so, as far as the compilers are installed.
 
@@ -15,6 +15,8 @@ mod fortran;
 mod independent;
 mod proved;
 mod stack;
+mod stack_cases;
+mod stack_inputs;
 
 use std::path::Path;
 use std::process::ExitCode;
@@ -24,6 +26,7 @@ use contestants::{Contestant, Work};
 use fortran::Fortran;
 use independent::Independent;
 use proved::Proved;
+use stack_cases::LIMIT;
 
 /// Of one contestant in one round, in nanoseconds.
 const SPELL: u64 = 20_000_000;
@@ -47,7 +50,7 @@ fn main() -> ExitCode {
             let mut work = contestant.ready(case, act).expect("a call");
             work.repeat(times.parse().expect("a number"));
         }
-        ["stack"] => stacks(&cases, &contestants),
+        ["stack"] => return stacks(&cases, &contestants),
         _ => return usage(),
     }
     ExitCode::SUCCESS
@@ -175,34 +178,32 @@ fn count(work: &mut dyn Work) -> usize {
     }
 }
 
-fn stacks(cases: &[Case], contestants: &[Box<dyn Contestant>]) {
-    println!("| case | call | {} |", heads(contestants));
-    println!("|---|---|{}", "---|".repeat(contestants.len()));
-    for (case, act) in jobs(cases) {
-        let cells: Vec<String> = contestants
-            .iter()
-            .map(|contestant| match contestant.ready(case, act) {
-                Some(mut work) => {
-                    // Once before, since a first call loads and sets up.
-                    work.repeat(1);
-                    let lent = Lent(work.as_mut());
-                    stack::depth(move || lent.repeat_once()).to_string()
-                }
-                None => String::new(),
-            })
-            .collect();
-        println!("| {} | {} | {} |", case.name, word(act), cells.join(" | "));
-    }
+/// That of each contestant, and that of each public call of the proved library; fails where one of its calls is over the limit.
+fn stacks(cases: &[Case], contestants: &[Box<dyn Contestant>]) -> ExitCode {
+    let mut figures = compared_stacks(cases, contestants);
+    println!();
+    figures.extend(stack_cases::print());
+    println!();
+    let most = figures.into_iter().max().expect("figures");
+    let (found, status) = if most <= LIMIT { ("within", ExitCode::SUCCESS) } else { ("over", ExitCode::FAILURE) };
+    println!("The most that a call of the proved library takes is {most} bytes, {found} the limit of {LIMIT}.");
+    status
 }
 
-/// A work lent to a thread, while the thread that lends it waits.
-struct Lent<'a>(&'a mut (dyn Work + 'a));
-
-// SAFETY: the lender waits for the thread to end.
-unsafe impl Send for Lent<'_> {}
-
-impl Lent<'_> {
-    fn repeat_once(self) {
-        self.0.repeat(1);
+/// Gives the figures of the proved library.
+fn compared_stacks(cases: &[Case], contestants: &[Box<dyn Contestant>]) -> Vec<usize> {
+    println!("| case | call | {} |", heads(contestants));
+    println!("|---|---|{}", "---|".repeat(contestants.len()));
+    let mut proved = Vec::new();
+    for (case, act) in jobs(cases) {
+        let depths: Vec<Option<usize>> = contestants
+            .iter()
+            .map(|contestant| contestant.ready(case, act).map(|mut work| stack::depth_of(work.as_mut())))
+            .collect();
+        let cells: Vec<String> =
+            depths.iter().map(|depth| depth.map_or(String::new(), |depth| depth.to_string())).collect();
+        println!("| {} | {} | {} |", case.name, word(act), cells.join(" | "));
+        proved.extend(depths[0]);
     }
+    proved
 }

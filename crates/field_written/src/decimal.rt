@@ -7,6 +7,7 @@ ghost use Rattle.field_written.specs.Numeral.{F, plain, sign_bytes, layout};
 ghost use Rattle.field_written.specs.Written.{fewest_columns, field_text, put_decimal, decimal_part};
 
 use crate::Sign;
+use crate::blanks::fill_blanks;
 use crate::signed::Signed;
 use number::TooLarge;
 use number::put::put_digits;
@@ -44,7 +45,7 @@ fn put_decimal(part: &mut [u8], need: usize, n: Signed, d: usize)
     let k = shown_digits(need - rest, part.len() - need);
     let free = part.len() - rest - k;
     let (blanks, numeral) = part.split_at_mut(free);
-    blanks.fill(b' ');
+    fill_blanks(blanks);
     put_numeral(numeral, n, k, d);
 }
 

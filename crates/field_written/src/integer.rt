@@ -5,6 +5,7 @@ ghost use Rattle.field_written.specs.Numeral.{I, plain};
 ghost use Rattle.field_written.specs.Written.{fewest_columns, field_text, field, starred};
 
 use crate::Sign;
+use crate::blanks::fill_blanks;
 use crate::signed::Signed;
 use number::put::put_digits;
 
@@ -17,7 +18,7 @@ fn put_integer(part: &mut [u8], need: usize, n: Signed)
     let free = part.len() - need;
     let (blanks, numeral) = part.split_at_mut(free);
     let (front, digits) = numeral.split_at_mut(n.sign.width());
-    blanks.fill(b' ');
+    fill_blanks(blanks);
     n.sign.put(front);
     put_digits(digits, n.magnitude);
 }

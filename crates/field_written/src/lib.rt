@@ -2,6 +2,7 @@
 // buffer that is lent to it.
 #![tactic(auto)]
 
+pub mod blanks;
 pub mod decimal;
 pub mod integer;
 pub mod logical;

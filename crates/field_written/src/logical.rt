@@ -2,6 +2,8 @@
 ghost use Rattle.std.specs.Prelude.{◌≡◌, ◌≤◌, length};
 ghost use Rattle.field_written.specs.LogicalField.{letter, logical_field};
 
+use crate::blanks::fill_blanks;
+
 fn letter_of(b: bool) -> u8
     ensures { result ≡ letter b }
 {
@@ -15,6 +17,6 @@ pub fn write_logical(part: &mut [u8], b: bool)
     ensures { part.new ≡ logical_field (length part.old) b }
 {
     let blanks = part.len() - 1;
-    part[..blanks].fill(b' ');
+    fill_blanks(&mut part[..blanks]);
     part[blanks] = letter_of(b);
 }

@@ -2,6 +2,8 @@
 ghost use Rattle.std.specs.Prelude.{◌≡◌, length};
 ghost use Rattle.field_written.specs.TextField.{text_field};
 
+use crate::blanks::fill_blanks;
+
 // The text under Aw, w the columns of the part.
 #[tactic(auto, unfolding(crate::specs::TextField::text_field))]
 pub fn write_text(part: &mut [u8], text: &[u8])
@@ -10,7 +12,7 @@ pub fn write_text(part: &mut [u8], text: &[u8])
     let width = part.len();
     if text.len() <= width {
         let (blanks, shown) = part.split_at_mut(width - text.len());
-        blanks.fill(b' ');
+        fill_blanks(blanks);
         shown.copy_from_slice(text);
         return;
     }

@@ -1,6 +1,7 @@
 // The items met.
 use format_items::{LARGEST_SIZE, LONGEST_FORMAT};
 use format_load::load::load;
+use format_words::packed::Packed;
 use format_words::{Entry, Word};
 use std::io;
 
@@ -34,13 +35,13 @@ fn show_word(rt: &impl Print, word: Word, chars: &[u8]) -> io::Result<()> {
 pub fn show_run(rt: &impl Print, format: &[u8]) -> io::Result<()> {
     let mut entries = [Entry::ZERO; LONGEST_FORMAT];
     let mut chars = [0u8; LONGEST_FORMAT];
-    let mut words = [Word::ZERO; LARGEST_SIZE];
+    let mut words = [Packed::ZERO; LARGEST_SIZE];
     match load(format, &mut entries, &mut chars, &mut words) {
         Err(_) => println!(rt; "refused"),
         Ok(run) => {
             print!(rt; "size {} return {}:", run.words.len(), run.back)?;
-            for word in run.words {
-                show_word(rt, *word, run.chars)?;
+            for packed in run.words {
+                show_word(rt, packed.word(), run.chars)?;
             }
             println!(rt)
         }

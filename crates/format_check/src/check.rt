@@ -5,9 +5,12 @@ ghost use Rattle.format_items.specs.Refusals.{longest_format};
 ghost use Rattle.format_check.specs.Checked.{answer, answer_number, answer_place};
 
 use format_items::{FormatRefusal, LONGEST_FORMAT};
+use format_load::SHORT_FORMAT;
 use format_load::items::check_items;
-use format_load::{MEDIUM_FORMAT, SHORT_FORMAT};
 use format_words::Entry;
+
+// Formats of at most so many bytes, and short ones, get arrays of their own.
+const MEDIUM_FORMAT: usize = 256;
 
 // Rows 3 to 5, for a text of at most N bytes: with room for the items of one so long. Not inlined, so that the stack of a call
 // holds the arrays of one size.

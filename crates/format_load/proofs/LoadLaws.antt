@@ -9,8 +9,8 @@ use Rattle.format_items.specs.Met.{met, return_part, return_index}
 use Rattle.format_items.specs.MetRanges.{AllMetWithin}
 use Rattle.format_items.proofs.MetLaws.{return_index_is}
 use Rattle.format_grammar.proofs.Promises.{accepts_exactly, met_in_range}
-use Rattle.format_words.specs.Words.{met_of, RunWords}
-use Rattle.format_words.specs.declared.Word.{Word}
+use Rattle.format_words.specs.Words.{met_in, RunWords}
+use Rattle.format_words.specs.declared.packed.Packed.{Packed}
 use Rattle.format_words.specs.declared.Entry.{Entry}
 use Rattle.format_run.specs.Runs.{AreMet}
 use Rattle.format_load.specs.ItemsChecked.{ItemsHeld}
@@ -19,13 +19,13 @@ module _ {s : List ℕ} {a : List Entry} {t : List ℕ} {n k : ℕ} (i : ItemsHe
   items_within : AllMetWithin (met i.items)
   items_within = (met_in_range s i.items ((accepts_exactly s i.items).0 i.accepts)).0
 
-  module _ {words : List Word} (r : AreMet t i.c words (met i.items)) where
+  module _ {words : List Packed} (r : AreMet t i.c words (met i.items)) where
     pub run_sound : RunWords (length t) words
     run_sound = λ j d g. omega (arith, i.within, r.sound j d g)
 
-    pub run_within : AllMetWithin (map (met_of t) words)
+    pub run_within : AllMetWithin (map (met_in t) words)
     run_within = rw r.mean items_within
 
     module _ {back : ℕ} (e : back ≡ return_index i.items) where
-      pub run_returns : drop back (map (met_of t) words) ≡ met (return_part i.items)
+      pub run_returns : drop back (map (met_in t) words) ≡ met (return_part i.items)
       run_returns = rw (r.mean, e) (return_index_is i.items)

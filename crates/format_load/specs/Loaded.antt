@@ -6,7 +6,7 @@ use Rattle.format_items.specs.Met.{met, return_part}
 use Rattle.format_items.specs.Size.{largest_size}
 use Rattle.format_grammar.specs.Check.{accepted, refused, outcome}
 use Rattle.format_items.specs.Refusals.{longest_format}
-use Rattle.format_words.specs.Words.{met_of}
+use Rattle.format_words.specs.Words.{met_in}
 use Rattle.format_words.specs.declared.run.Run.{Run}
 use Rattle.format_load.specs.declared.LoadError.{LoadError}
 use Rattle.format_load.specs.declared.LoadError.TheVariants.{Refused, TooSmall}
@@ -16,8 +16,8 @@ use Rattle.format_load.specs.declared.LoadError.TheVariants.{Refused, TooSmall}
 pub record RunHeld (format : List ℕ) (r : Run) : Type 0 where
   pub items : Items
   pub accepts : outcome format ≡ accepted items
-  pub mean : map (met_of r.chars.now) r.words.now ≡ met items
-  pub return_to : drop r.back (map (met_of r.chars.now) r.words.now) ≡ met (return_part items)
+  pub mean : map (met_in r.chars.now) r.words.now ≡ met items
+  pub return_to : drop r.back (map (met_in r.chars.now) r.words.now) ≡ met (return_part items)
 
 -- the refusal; or that arrays of these lengths (of entries, of characters, of words) are not all of the largest size that a
 -- format may need; or the run, which lies in its arrays

@@ -10,11 +10,8 @@ pub mod load;
 
 use format_items::FormatRefusal;
 
-// A local array is cleared at each call, and most formats are short: those of at most SHORT_FORMAT bytes, and those of at most
-// MEDIUM_FORMAT, get arrays of their own.
+// A local array is cleared at each call, and most formats are short: those of at most so many bytes get arrays of their own.
 pub const SHORT_FORMAT: usize = 64;
-
-pub const MEDIUM_FORMAT: usize = 256;
 
 // A format's items: how many entries hold them, in a lent array (fixed memory, so no `Vec`), and their size.
 #[derive(Clone, Copy, PartialEq, Eq, Debug)]

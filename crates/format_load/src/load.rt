@@ -7,8 +7,9 @@ use crate::items::check_items;
 use format_grammar::LEVELS;
 use format_items::{FormatRefusal, LONGEST_FORMAT};
 use format_run::unroll::unroll;
+use format_words::Entry;
+use format_words::packed::Packed;
 use format_words::run::Run;
-use format_words::{Entry, Word};
 
 // A format's text checked (rows 2 to 5), and its items unrolled into the first words of `run`; `TooSmall` where the arrays
 // are too small.
@@ -16,7 +17,7 @@ pub fn load<'a>(
     format: &[u8],
     entries: &mut [Entry],
     chars: &'a mut [u8],
-    run: &'a mut [Word],
+    run: &'a mut [Packed],
 ) -> Result<Run<'a>, LoadError>
     ensures { loaded format.now (length entries.old) (length chars.old) (length run.old) result }
 {

@@ -35,6 +35,7 @@ module _ {s : List ℕ} {from at : ℕ} {v : Option ℕ} (f : NumberFound s from
         first = i.first;
         runs = λ l xs q. number_on f Use.start h (λ l xs q. State.within (Mode.digits u (at + 1) 0) l xs q) g (λ l xs q a b. refl) l xs q ∙ i.runs l xs q;
         no_characters = i.no_characters;
+        small = i.small;
         numbers_are = i.numbers_are;
         outside_is = i.outside_is ∙ ap (λ (z : Option ℕ). outside_after z i.late) out ∙ sym (outside_append o (repeat_numbers k) i.late);
         more = omega (arith, f.low, i.more);
@@ -56,6 +57,7 @@ module _ {s : List ℕ} {from at : ℕ} {v : Option ℕ} (f : NumberFound s from
         first = λ t. subst (λ (m : ℕ). First (Items.slash k Items.none) m Met.slash Items.none) (times_at from v ∙ sym rep) First.slash;
         runs = number_on f Use.start h (λ l xs q. State.within Mode.after l (join xs (Items.slash k Items.none)) q) (λ l xs q. rw g) (λ l xs q a b. refl);
         no_characters = refl;
+        small = omega arith;
         numbers_are = append-nil (repeat_numbers k);
         outside_is = out;
         more = omega (arith, f.low);
@@ -79,6 +81,7 @@ X-read {s} {from} {v} {at} f h g o o₁ out =
       first = λ t. First.X;
       runs = number_on f Use.start h (λ l xs q. State.within Mode.after l (join xs (Items.X n Items.none)) q) (λ l xs q. rw g) (λ l xs q a b. refl);
       no_characters = refl;
+      small = omega arith;
       numbers_are = refl;
       outside_is = out;
       more = omega (arith, f.low);

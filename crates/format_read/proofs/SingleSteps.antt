@@ -17,6 +17,7 @@ use Rattle.format_items.specs.Met.{Met}
 use Rattle.format_grammar.specs.Reading.{Use, Mode, Open, State, Reading, pick, step, step_within, unless_dead, used, separated, read_at}
 use Rattle.format_grammar.proofs.ReadLaws.{read_step, read_end, read_same, read_stuck, step_used}
 use Rattle.format_words.specs.Words.{met_of, reach}
+use Rattle.format_words.specs.Packing.{detail_of}
 use Rattle.format_words.specs.declared.Word.{Word}
 use Rattle.format_words.specs.declared.Word.TheVariants as word
 use Rattle.format_words.specs.Held.{First}
@@ -103,6 +104,7 @@ pub record Ends (u : Use) (k : Repeat) (w : ℕ → Word) (high : ℕ) : Type 0 
   pub enough : (n : Number) (at l : ℕ) (xs : Items) (q : Open) (b : ℕ) → used u (Repeat.given n) at l xs q b ≡ separated at l (join xs (item n)) q b
   pub first : (t : List ℕ) (n : Number) → First (item n) (times k) (met_of t (w (value_of n))) Items.none
   pub no_characters : (v : ℕ) → reach (w v) ≡ 0
+  pub no_detail : (v : ℕ) → detail_of (w v) ≡ 0
   pub numbers_are : (n : Number) → numbers (item n) ≡ repeat_numbers k ++ ranged n 1 high ∷ []
 
 module _ {s : List ℕ} {at next : ℕ} {u : Use} {k : Repeat} {w : ℕ → Word} {high : ℕ} (e : Ends u k w high) where
@@ -119,6 +121,7 @@ module _ {s : List ℕ} {at next : ℕ} {u : Use} {k : Repeat} {w : ℕ → Word
         first = λ t. subst (λ (m : ℕ). First (e.item n) m (met_of t (w v)) Items.none) rep (e.first t n);
         runs = number_ends f u (e.item n) (λ l xs q b. e.enough n next l xs q b);
         no_characters = e.no_characters v;
+        small = omega (arith, e.no_detail v);
         numbers_are = e.numbers_are n;
         outside_is = out ∙ sym (outside_one o (ranged n 1 high));
         more = f.low;
@@ -132,23 +135,24 @@ module _ {u : Use} {k : Repeat} {w : ℕ → Word} (field : Number → Field Num
   ends_field : ((at l : ℕ) (xs : Items) (q : Open) (b : ℕ) → used u Repeat.absent at l xs q b ≡ State.dead)
       → ((n : Number) (at l : ℕ) (xs : Items) (q : Open) (b : ℕ) → used u (Repeat.given n) at l xs q b ≡ separated at l (join xs (Items.field k (field n) Items.none)) q b)
       → ((t : List ℕ) (n : Number) → First (Items.field k (field n) Items.none) (times k) (met_of t (w (value_of n))) Items.none)
-      → ((v : ℕ) → reach (w v) ≡ 0) → ((n : Number) → field_numbers (field n) ≡ range_w n ∷ []) → Ends u k w 64
+      → ((v : ℕ) → reach (w v) ≡ 0) → ((v : ℕ) → detail_of (w v) ≡ 0) → ((n : Number) → field_numbers (field n) ≡ range_w n ∷ []) → Ends u k w 64
   unfolding numbers
-  ends_field needed enough first none ranges =
+  ends_field needed enough first none detail ranges =
       record {
         item = λ n. Items.field k (field n) Items.none;
         needed = needed;
         enough = enough;
         first = first;
         no_characters = none;
+        no_detail = detail;
         numbers_are = λ n. rw (ranges n) (append-nil (repeat_numbers k ++ range_w n ∷ []));
       }
 
 pub ends-I : (k : Repeat) → Ends (Use.width_i k) k word.I 64
-ends-I k = ends_field Field.I (λ at l xs q b. refl) (λ n at l xs q b. refl) (λ t n. First.field) (λ v. refl) (λ n. refl)
+ends-I k = ends_field Field.I (λ at l xs q b. refl) (λ n at l xs q b. refl) (λ t n. First.field) (λ v. refl) (λ v. refl) (λ n. refl)
 
 pub ends-L : (k : Repeat) → Ends (Use.width_l k) k word.L 64
-ends-L k = ends_field Field.L (λ at l xs q b. refl) (λ n at l xs q b. refl) (λ t n. First.field) (λ v. refl) (λ n. refl)
+ends-L k = ends_field Field.L (λ at l xs q b. refl) (λ n at l xs q b. refl) (λ t n. First.field) (λ v. refl) (λ v. refl) (λ n. refl)
 
 pub ends-T : Ends Use.column Repeat.absent word.T 255
 unfolding numbers
@@ -159,6 +163,7 @@ ends-T =
       enough = λ n at l xs q b. refl;
       first = λ t n. First.T;
       no_characters = λ v. refl;
+      no_detail = λ v. refl;
       numbers_are = λ n. refl;
     }
 
@@ -174,6 +179,7 @@ module _ {s : List ℕ} {at next : ℕ} (k : Repeat) (r : ℕ) (rep : times k �
         first = λ t. subst (λ (m : ℕ). First (Items.field k Field.A Items.none) m (Met.field Field.A) Items.none) rep First.field;
         runs = number_ends f (Use.width_a k) (Items.field k Field.A Items.none) (λ l xs q b. refl);
         no_characters = refl;
+        small = omega arith;
         numbers_are = append-nil (repeat_numbers k ++ []);
         outside_is = sym (outside_none o);
         more = f.low;
@@ -190,6 +196,7 @@ module _ {s : List ℕ} {at next : ℕ} (k : Repeat) (r : ℕ) (rep : times k �
         first = λ t. subst (λ (m : ℕ). First (Items.field k (Field.Aw n) Items.none) m (Met.field (Field.Aw v)) Items.none) rep First.field;
         runs = number_ends f (Use.width_a k) (Items.field k (Field.Aw n) Items.none) (λ l xs q b. refl);
         no_characters = refl;
+        small = omega arith;
         numbers_are = append-nil (repeat_numbers k ++ range_w n ∷ []);
         outside_is = out ∙ sym (outside_one o (range_w n));
         more = f.low;
@@ -229,6 +236,7 @@ module _ {s : List ℕ} {at w point : ℕ} (f : NumberFound s at (Some w) point)
             first = λ t. subst (λ (j : ℕ). First (Items.field k (Field.F m n) Items.none) j (Met.field (Field.F w d)) Items.none) rep First.field;
             runs = λ l xs q. decimal_on l xs q ∙ number_ends g (Use.places k m) (Items.field k (Field.F m n) Items.none) (λ l xs q b. refl) l xs q;
             no_characters = refl;
+            small = omega (arith, g.small);
             numbers_are = append-nil (repeat_numbers k ++ range_w m ∷ range_d n ∷ []);
             outside_is = x₂ ∙ ap (λ (z : Option ℕ). keep_first z (range_d n)) x₁;
             more = omega (arith, f.low, g.low);

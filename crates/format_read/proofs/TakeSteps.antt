@@ -12,11 +12,13 @@ use Rattle.std.specs.Prelude.{Option}
 use Rattle.std.proofs.lemmas.List.{drop-set, drop-take}
 use Rattle.format_items.specs.Items.{Items}
 use Rattle.format_items.specs.Ranges.{numbers}
-use Rattle.format_items.specs.Met.{Met}
 use Rattle.format_grammar.specs.Reading.{Mode, Open, State, Reading, wanted, read_at}
 use Rattle.format_grammar.proofs.Cases.{is_mark}
 use Rattle.format_grammar.proofs.LiteralLaws.{step_open}
 use Rattle.format_grammar.proofs.ReadLaws.{read_step}
+use Rattle.format_words.specs.Words.{met_in}
+use Rattle.format_words.specs.Packing.{word_in}
+use Rattle.format_words.specs.declared.packed.Packed.{Packed}
 use Rattle.format_words.specs.declared.Word.{Word}
 use Rattle.format_words.specs.declared.Word.TheVariants as word
 use Rattle.format_words.specs.declared.Entry.{Entry}
@@ -65,15 +67,16 @@ moved e = record { same_text = e; at_is = refl; entries_are = refl; chars_are = 
 
 -- ---- an item that is neither a group nor a literal
 
-pub took_single : {l : ℕ} {p p' : Position} {a b : List Entry} {w : Word} {r next : ℕ} {o : Option ℕ} → length p.text.now ≤ length a → ItemRead p.text.now p.at (wanted p.at) [] (p.at + 1) p.outside w r next o
-    → Moved p next (p.entries + 1) p.chars o p' → b ≡ set a p.entries (entry.Item w r) → (t : List ℕ) → Took l (wanted p.at) (State.within Mode.after) p a t p' b t
-took_single {l} {p} {p'} {a} {b} {w} {r} {next} {o} fit i m e t =
+pub took_single : {l : ℕ} {p p' : Position} {a b : List Entry} {x : Word} {r next : ℕ} {o : Option ℕ} → length p.text.now ≤ length a → ItemRead p.text.now p.at (wanted p.at) [] (p.at + 1) p.outside x r next o
+    → (w : Packed) → word_in w ≡ x → Moved p next (p.entries + 1) p.chars o p' → b ≡ set a p.entries (entry.Item r w) → (t : List ℕ) → Took l (wanted p.at) (State.within Mode.after) p a t p' b t
+took_single {l} {p} {p'} {a} {b} {x} {r} {next} {o} fit i w is m e t =
     let more : p.at < p'.at = omega (arith, m.at_is, i.more) in
+    let first : First i.item r (met_in t w) Items.none = rw is (i.first t) in
     record {
       items = i.item;
       runs = λ xs q. rw m.at_is (i.runs l xs q);
-      holds = rw (m.entries_are, e, between_one a p.entries (entry.Item w r) (omega (arith, p.few_entries, fit, i.more, i.high))) (Holds.item (i.first t) (omega (arith, i.no_characters)) Holds.none);
-      entries_kept = ap (take p.entries) e ∙ take-set-le p.entries a p.entries (entry.Item w r) (omega arith);
+      holds = rw (m.entries_are, e, between_one a p.entries (entry.Item r w) (omega (arith, p.few_entries, fit, i.more, i.high))) (Holds.item {w = w} first (rw is (omega (arith, i.no_characters))) Holds.none);
+      entries_kept = ap (take p.entries) e ∙ take-set-le p.entries a p.entries (entry.Item r w) (omega arith);
       chars_kept = refl;
       outside_is = m.outside_is ∙ i.outside_is ∙ ap (outside_after p.outside) (sym i.numbers_are);
       same_text = m.same_text;
@@ -100,18 +103,18 @@ chars_before t u c end cs h e f =
 
 module _ {p p' : Position} {a : List Entry} {t u : List ℕ} {m next end : ℕ} (fit : length p.text.now ≤ length a) (fits : length p.text.now ≤ length t) (f : LiteralFound p.text.now (p.at + 1) m t p.chars u next end)
     (h : p.at < length p.text.now) (e : get_or p.text.now p.at 0 ≡ m) (k : (eqb m 39 || eqb m 34) ≡ true) (n : Moved p next (p.entries + 1) end p.outside p') where
-  pub took_literal : (l : ℕ) (b : List Entry) → b ≡ set a p.entries (entry.Item (word.Literal p.chars (end - p.chars)) 1) → Took l (wanted p.at) (State.within Mode.after) p a t p' b u
+  pub took_literal : (l : ℕ) (b : List Entry) (w : Packed) → word_in w ≡ word.Literal p.chars (end - p.chars) → b ≡ set a p.entries (entry.Item 1 w) → Took l (wanted p.at) (State.within Mode.after) p a t p' b u
   unfolding numbers outside_after
-  took_literal l b g =
+  took_literal l b w is g =
       let c = p.chars in
       let small : c ≤ length t = omega (arith, p.few_chars) in
-      let x = entry.Item (word.Literal c (end - c)) 1 in
-      let first : First (Items.literal f.characters Items.none) 1 (Met.literal (take (end - c) (drop c u))) Items.none = rw (text_at t u c end f.characters small f.end_is f.are) First.literal in
+      let x = entry.Item 1 w in
+      let first : First (Items.literal f.characters Items.none) 1 (met_in u w) Items.none = rw (is, text_at t u c end f.characters small f.end_is f.are) First.literal in
       record {
         items = Items.literal f.characters Items.none;
         runs = λ xs q. rw n.at_is (literal_begun p.text.now p.at m h e k l xs q ∙ f.runs l xs q);
         holds = rw (n.entries_are, n.chars_are, g, between_one a p.entries x (omega (arith, p.few_entries)))
-            (Holds.item {w = word.Literal c (end - c)} first (omega (arith, f.end_is)) Holds.none);
+            (Holds.item {w = w} first (rw is (omega (arith, f.end_is))) Holds.none);
         entries_kept = ap (take p.entries) g ∙ take-set-le p.entries a p.entries x (omega arith);
         chars_kept = chars_before t u c end f.characters small f.end_is f.are;
         outside_is = n.outside_is;

@@ -7,6 +7,7 @@ use Rattle.format_items.specs.Items.{number, Repeat, absent, given, times, Items
 use Rattle.format_items.specs.Ranges.{Ranged, ranged, outside, place, repeat_numbers, numbers}
 use Rattle.format_grammar.specs.Reading.{Use, Mode, Open, State, Reading, wanted, written, read_at}
 use Rattle.format_words.specs.Words.{met_of, reach}
+use Rattle.format_words.specs.Packing.{detail_of}
 use Rattle.format_words.specs.declared.Word.{Word}
 use Rattle.format_words.specs.declared.Entry.{Entry}
 use Rattle.format_words.specs.Held.{First, Holds}
@@ -58,6 +59,7 @@ pub record ItemRead (s : List ℕ) (a : ℕ) (m : Mode) (ns : List Ranged) (leas
   pub first : (t : List ℕ) → First item r (met_of t w) Items.none
   pub runs : (l : ℕ) (xs : Items) (q : Open) → read_at s a (State.within m l xs q) ≡ read_at s next (State.within Mode.after l (join xs item) q)
   pub no_characters : reach w ≡ 0
+  pub small : detail_of w < 4096
   pub numbers_are : numbers item ≡ ns ++ late
   pub outside_is : o' ≡ outside_after o late
   pub more : least ≤ next

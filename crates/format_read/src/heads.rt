@@ -9,6 +9,7 @@ use crate::literals::read_literal;
 use crate::range::look_at_repeat;
 use crate::singles::read_single;
 use crate::{Head, Number, Position, Ungrammatical};
+use format_words::packed::Packed;
 use format_words::{Entry, Word};
 
 // An apostrophe or a quotation mark.
@@ -34,11 +35,11 @@ impl Position<'_> {
         let literal = read_literal(self.text, self.at + 1, m, chars, c)?;
         let end = literal.end;
         // Casts: both are at most 1,024, as the proof shows, and `try_from` would add an arm that is never taken.
-        let word = Word::Literal {
+        let word = Packed::of(Word::Literal {
             start: c as u16,
             len: (end - c) as u16,
-        };
-        entries[self.entries] = Entry::Item { word, repeat: 1 };
+        });
+        entries[self.entries] = Entry::Item { repeat: 1, word };
         self.at = literal.next;
         self.entries += 1;
         self.chars = end;
@@ -54,8 +55,8 @@ impl Position<'_> {
     {
         let single = read_single(self.text, self.at, m, &mut self.outside)?;
         entries[self.entries] = Entry::Item {
-            word: single.word,
             repeat: single.repeat,
+            word: Packed::of(single.word),
         };
         self.at = single.next;
         self.entries += 1;

@@ -5,7 +5,7 @@ use native.Mathlib.Decide.{dec_le}
 use native.Mathlib.Nat.{zero-mul, suc-mul}
 use Rattle.format_items.specs.Items.{Items}
 use Rattle.format_items.specs.Size.{size, largest_size}
-use Rattle.format_words.specs.declared.Word.{Word}
+use Rattle.format_words.specs.declared.packed.Packed.{Packed}
 use Rattle.format_words.specs.declared.Entry.{Entry}
 use Rattle.format_words.specs.declared.Entry.TheVariants as entry
 use Rattle.format_words.specs.Held.{Holds, SomeItems}
@@ -50,7 +50,7 @@ module _ {es : List Entry} {l total : ℕ} {rest : List Entry} (w : Added es l t
       let z : size g.zs ≡ 0 = rw (none_left g.holds e) in
       omega (arith, w.low, g.sum)
 
-  pub added_item : {word : Word} {r : ℕ} {tail : List Entry} (sum : ℕ) → rest ≡ entry.Item word r ∷ tail → sum ≡ capped (total + r) → Added es l sum tail
+  pub added_item : {word : Packed} {r : ℕ} {tail : List Entry} (sum : ℕ) → rest ≡ entry.Item r word ∷ tail → sum ≡ capped (total + r) → Added es l sum tail
   added_item {word} {r} {tail} sum e s = record { low = omega arith; all = λ t c xs h. step t c xs (w.all t c xs h) }
     where
       step : (t : List ℕ) (c : ℕ) (xs : Items) → Left t c l total rest xs → Left t c l sum tail xs

@@ -10,8 +10,8 @@ use Rattle.format_items.specs.Items.{times, Items}
 use Rattle.format_items.specs.Ranges.{numbers, AllWithin}
 use Rattle.format_items.specs.Size.{size}
 use Rattle.format_items.specs.Met.{Met, repeat, met, return_index}
-use Rattle.format_words.specs.Words.{met_of, RunWord}
-use Rattle.format_words.specs.declared.Word.{Word}
+use Rattle.format_words.specs.Words.{met_in, RunPacked}
+use Rattle.format_words.specs.declared.packed.Packed.{Packed}
 use Rattle.format_words.specs.declared.Entry.{Entry}
 use Rattle.format_words.specs.declared.Entry.TheVariants as entry
 use Rattle.format_words.specs.Held.{Holds}
@@ -26,16 +26,16 @@ use Rattle.format_run.proofs.Backs.{final_back, final_start, final_none, final_f
 
 module _ {t : List ℕ} {c : ℕ} where
   met_none : AreMet t c [] []
-  met_none = record { sound = All-nil (RunWord c); mean = refl }
+  met_none = record { sound = All-nil (RunPacked c); mean = refl }
 
-  met_one : {w : Word} → RunWord c w → AreMet t c (w ∷ []) (met_of t w ∷ [])
-  met_one {w} s = record { sound = All-cons (RunWord c) w [] s (All-nil (RunWord c)); mean = refl }
+  met_one : {w : Packed} → RunPacked c w → AreMet t c (w ∷ []) (met_in t w ∷ [])
+  met_one {w} s = record { sound = All-cons (RunPacked c) w [] s (All-nil (RunPacked c)); mean = refl }
 
-  met_more : {vs ws : List Word} {ks js : List Met} → AreMet t c vs ks → AreMet t c ws js → AreMet t c (vs ++ ws) (ks ++ js)
+  met_more : {vs ws : List Packed} {ks js : List Met} → AreMet t c vs ks → AreMet t c ws js → AreMet t c (vs ++ ws) (ks ++ js)
   met_more {vs} {ws} a b =
-      record { sound = All-append (RunWord c) vs ws a.sound b.sound; mean = map-append (met_of t) vs ws ∙ rw (a.mean, b.mean) }
+      record { sound = All-append (RunPacked c) vs ws a.sound b.sound; mean = map-append (met_in t) vs ws ∙ rw (a.mean, b.mean) }
 
-  met_repeat : (r : ℕ) {ws : List Word} {ks : List Met} → AreMet t c ws ks → AreMet t c (repeat r ws) (repeat r ks)
+  met_repeat : (r : ℕ) {ws : List Packed} {ks : List Met} → AreMet t c ws ks → AreMet t c (repeat r ws) (repeat r ks)
   unfolding repeat
   met_repeat zero a = met_none
   met_repeat (suc r) a = met_more a (met_repeat r a)
@@ -92,14 +92,14 @@ module _ {es : List Entry} {l room : ℕ} (f : SomeItemsFit es l room) where
   pub fits_levels : {n r : ℕ} {tail : List Entry} → es ≡ entry.Group n r ∷ tail → (1 ≤ l) × (n ≤ length tail)
   fits_levels e = let g = as_group (rw e at f.holds) in (g.deep, g.few)
 
-  pub fits_item : {w : Word} {r : ℕ} {tail : List Entry} → es ≡ entry.Item w r ∷ tail → (1 ≤ r) × (r ≤ room)
+  pub fits_item : {w : Packed} {r : ℕ} {tail : List Entry} → es ≡ entry.Item r w ∷ tail → (1 ≤ r) × (r ≤ room)
   fits_item e =
       let i = as_item (rw e at f.holds) in
       (some_first i.first f.ranges, omega (arith, f.fits, (first_adds i.first).size_is))
 
 -- ---- the loop: the items that `rest` holds are left, those before them are met in the first `end` words
 
-pub record Rest (t : List ℕ) (c l : ℕ) (run : List Word) (end back : ℕ) (rest : List Entry) (xs : Items) : Type 0 where
+pub record Rest (t : List ℕ) (c l : ℕ) (run : List Packed) (end back : ℕ) (rest : List Entry) (xs : Items) : Type 0 where
   pub zs : Items
   pub holds : Holds t c l rest zs
   pub ranges : AllWithin (numbers xs) → AllWithin (numbers zs)
@@ -109,16 +109,16 @@ pub record Rest (t : List ℕ) (c l : ℕ) (run : List Word) (end back : ℕ) (r
   pub words : AreMet t c (take end run) done
   pub final : 0 + return_index xs ≡ final_back back end zs
 
-pub record Unrolling (es : List Entry) (l : ℕ) (run : List Word) (end back : ℕ) (rest : List Entry) : Type 0 where
+pub record Unrolling (es : List Entry) (l : ℕ) (run : List Packed) (end back : ℕ) (rest : List Entry) : Type 0 where
   pub all : (t : List ℕ) (c : ℕ) (xs : Items) → Holds t c l es xs → Rest t c l run end back rest xs
 
-pub unrolling_none : {es : List Entry} {l : ℕ} {run : List Word} → Unrolling es l run 0 0 es
+pub unrolling_none : {es : List Entry} {l : ℕ} {run : List Packed} → Unrolling es l run 0 0 es
 unrolling_none =
     record {
       all = λ t c xs h. record { zs = xs; holds = h; ranges = λ r. r; done = []; split = refl; count = refl; words = met_none; final = final_start 0 xs };
     }
 
-module _ {es : List Entry} {l : ℕ} {run : List Word} {end back : ℕ} {rest : List Entry} (w : Unrolling es l run end back rest) where
+module _ {es : List Entry} {l : ℕ} {run : List Packed} {end back : ℕ} {rest : List Entry} (w : Unrolling es l run end back rest) where
   pub fits_left : SomeItemsFit es l (length run) → (end ≤ length run) × SomeItemsFit rest l (length run - end)
   fits_left f =
       let g = w.all f.t f.c f.items f.holds in
@@ -143,13 +143,13 @@ module _ {es : List Entry} {l : ℕ} {run : List Word} {end back : ℕ} {rest : 
         let e : back ≡ 0 + return_index xs = sym (g.final ∙ ap (λ z. final_back back end z) (none_left g.holds none) ∙ final_none back end) in
         omega arith
 
-  module _ (low : end ≤ length run) {front : List Word} (same : front ≡ take end run) (new post : List Word) (m : ℕ) (long : m ≤ length new) where
+  module _ (low : end ≤ length run) {front : List Packed} (same : front ≡ take end run) (new post : List Packed) (m : ℕ) (long : m ≤ length new) where
     -- the words written after the first `end`
     more : {t : List ℕ} {c : ℕ} {done ks : List Met} → AreMet t c (take end run) done → AreMet t c (take m new) ks
         → AreMet t c (take (end + m) (front ++ (new ++ post))) (done ++ ks)
     more {done} {ks} a b = rw (part_words front new post end m (ap length same ∙ length-take-le end run low) long) (met_more {vs = front} {ws = take m new} {ks = done} {js = ks} (rw same a) b)
 
-    pub unrolling_item : {word : Word} {r : ℕ} {tail : List Entry} → rest ≡ entry.Item word r ∷ tail → m ≡ r → take m new ≡ repeat r (word ∷ [])
+    pub unrolling_item : {word : Packed} {r : ℕ} {tail : List Entry} → rest ≡ entry.Item r word ∷ tail → m ≡ r → take m new ≡ repeat r (word ∷ [])
         → Unrolling es l (front ++ (new ++ post)) (end + m) back tail
     unrolling_item {word} {r} {tail} e n is = record { all = λ t c xs h. step t c xs (w.all t c xs h) }
       where
@@ -160,14 +160,14 @@ module _ {es : List Entry} {l : ℕ} {run : List Word} {end back : ℕ} {rest : 
               zs = v.next;
               holds = v.rest;
               ranges = λ r. within_first v.first (g.ranges r);
-              done = g.done ++ repeat r (met_of t word ∷ []);
-              split = g.split ∙ rw ((first_adds v.first).met_is, repeat_one) (sym (append_assoc g.done (replicate r (met_of t word)) (met v.next)));
-              count = omega (arith, g.count, n, length-append g.done (repeat r (met_of t word ∷ [])), length_repeat r (met_of t word ∷ []), mul-one r);
+              done = g.done ++ repeat r (met_in t word ∷ []);
+              split = g.split ∙ rw ((first_adds v.first).met_is, repeat_one) (sym (append_assoc g.done (replicate r (met_in t word)) (met v.next)));
+              count = omega (arith, g.count, n, length-append g.done (repeat r (met_in t word ∷ [])), length_repeat r (met_in t word ∷ []), mul-one r);
               words = more g.words (rw is (met_repeat r (met_one v.sound)));
               final = g.final ∙ final_first back end (end + m) v.first (omega arith);
             }
 
-    pub unrolling_group : {n r i : ℕ} {tail : List Entry} (one : List Word) → rest ≡ entry.Group n r ∷ tail
+    pub unrolling_group : {n r i : ℕ} {tail : List Entry} (one : List Packed) → rest ≡ entry.Group n r ∷ tail
         → ((t : List ℕ) (c : ℕ) (ys : Items) → Holds t c (l - 1) (take n tail) ys → i ≡ length (met ys))
         → ((t : List ℕ) (c : ℕ) (ys : Items) → Holds t c (l - 1) (take n tail) ys → AreMet t c one (met ys))
         → m ≡ r * i → take m new ≡ repeat r one → Unrolling es l (front ++ (new ++ post)) (end + m) end (drop n tail)

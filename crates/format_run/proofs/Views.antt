@@ -3,17 +3,17 @@
 use Rattle.std.proofs.Common.{◌≡◌, refl, sym, List, ◌∷◌, ℕ, ◌+◌, ◌-◌, ◌≤◌, arith, length, take, drop, length-append}
 use lib.Seq.{take_at, drop_at}
 use Rattle.format_items.specs.Items.{Repeat, times, Items}
-use Rattle.format_words.specs.Words.{met_of, RunWord}
-use Rattle.format_words.specs.declared.Word.{Word}
+use Rattle.format_words.specs.Words.{met_in, RunPacked}
+use Rattle.format_words.specs.declared.packed.Packed.{Packed}
 use Rattle.format_words.specs.declared.Entry.{Entry}
 use Rattle.format_words.specs.declared.Entry.TheVariants as entry
 use Rattle.format_words.specs.Held.{First, Holds, SomeItems}
 
 -- an item that is no group
-pub record Item (t : List ℕ) (c l : ℕ) (w : Word) (r : ℕ) (es : List Entry) (xs : Items) : Type 0 where
+pub record Item (t : List ℕ) (c l : ℕ) (w : Packed) (r : ℕ) (es : List Entry) (xs : Items) : Type 0 where
   pub next : Items
-  pub first : First xs r (met_of t w) next
-  pub sound : RunWord c w
+  pub first : First xs r (met_in t w) next
+  pub sound : RunPacked c w
   pub rest : Holds t c l es next
 
 -- a group, which n entries hold
@@ -29,7 +29,7 @@ pub record Group (t : List ℕ) (c l n k : ℕ) (es : List Entry) (xs : Items) :
   pub two : Holds t c l (drop n es) next
 
 module _ {t : List ℕ} {c : ℕ} where
-  pub as_item : {l r : ℕ} {w : Word} {es : List Entry} {xs : Items} → Holds t c l (entry.Item w r ∷ es) xs → Item t c l w r es xs
+  pub as_item : {l r : ℕ} {w : Packed} {es : List Entry} {xs : Items} → Holds t c l (entry.Item r w ∷ es) xs → Item t c l w r es xs
   as_item (Holds.item {next} f s h) = record { next = next; first = f; sound = s; rest = h }
 
   pub as_group : {l n k : ℕ} {es : List Entry} {xs : Items} → Holds t c l (entry.Group n k ∷ es) xs → Group t c l n k es xs

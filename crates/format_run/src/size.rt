@@ -21,7 +21,7 @@ pub fn size_of(entries: &[Entry], level: usize) -> usize
     let mut rest = entries;
     while let Some((entry, tail)) = rest.split_first() {
         match *entry {
-            Entry::Item { word: _, repeat } => {
+            Entry::Item { repeat, word: _ } => {
                 total = (total + usize::from(repeat)).min(TOO_LARGE);
                 rest = tail;
             }

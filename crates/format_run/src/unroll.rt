@@ -5,11 +5,12 @@ ghost use Rattle.format_items.specs.Met.{repeat, met, return_index};
 ghost use Rattle.format_words.specs.Held.{Holds};
 ghost use Rattle.format_run.specs.Runs.{SomeItemsFit, AreMet};
 
-use format_words::{Entry, Word};
+use format_words::Entry;
+use format_words::packed::Packed;
 
 // The first n words, r times instead of once; answers how many they then are. (By index: a word is copied from the one n before
 // it, which may be a copy itself.)
-fn repeat_words(run: &mut [Word], n: usize, r: u16) -> usize
+fn repeat_words(run: &mut [Packed], n: usize, r: u16) -> usize
     requires some { 1 ≤ r }
     requires room { r * n ≤ length run.old }
     ensures count { result ≡ r * n }
@@ -30,7 +31,7 @@ pub struct Unrolled {
 }
 
 // The items met of the items that the entries hold, as the first words of the run.
-pub fn unroll(entries: &[Entry], level: usize, run: &mut [Word]) -> Unrolled
+pub fn unroll(entries: &[Entry], level: usize, run: &mut [Packed]) -> Unrolled
     requires { SomeItemsFit entries.now level (length run.old) }
     ensures count { (t : List ℕ) (c : ℕ) (xs : Items) → Holds t c level entries.now xs → result.end ≡ length (met xs) }
     ensures words { (t : List ℕ) (c : ℕ) (xs : Items) → Holds t c level entries.now xs → AreMet t c (take result.end run.new) (met xs) }
@@ -41,7 +42,7 @@ pub fn unroll(entries: &[Entry], level: usize, run: &mut [Word]) -> Unrolled
     let mut rest = entries;
     while let Some((entry, tail)) = rest.split_first() {
         match *entry {
-            Entry::Item { word, repeat } => {
+            Entry::Item { repeat, word } => {
                 run[end] = word;
                 end += repeat_words(&mut run[end..], 1, repeat);
                 rest = tail;

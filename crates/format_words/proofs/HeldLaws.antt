@@ -6,6 +6,7 @@ use Rattle.std.proofs.lemmas.List.{drop-take}
 use Rattle.format_items.specs.Items.{Items, join}
 use Rattle.format_items.specs.Met.{Met}
 use Rattle.format_words.specs.Words.{met_of, RunWord}
+use Rattle.format_words.specs.Packing.{word_in}
 use Rattle.format_words.specs.declared.Word.{Word}
 use Rattle.format_words.specs.declared.Word.TheVariants as word
 use Rattle.format_words.specs.declared.Entry.{Entry}
@@ -51,5 +52,5 @@ met_kept (word.Literal a n) c t u h e = ap Met.literal (slice_kept a n c t u h e
 pub holds_kept : {t u : List ℕ} {c d l : ℕ} {es : List Entry} {xs : Items} → Holds t c l es xs → take c u ≡ take c t → c ≤ d → Holds u d l es xs
 holds_kept Holds.none q h = Holds.none
 holds_kept {t} {u} {c} (Holds.item {r} {w} {xs} {next} f s rest) q h =
-    Holds.item (subst (λ (x : Met). First xs r x next) (sym (met_kept w c t u s q)) f) (omega arith) (holds_kept rest q h)
+    Holds.item (subst (λ (x : Met). First xs r x next) (sym (met_kept (word_in w) c t u s q)) f) (omega arith) (holds_kept rest q h)
 holds_kept (Holds.group n r e inside rest) q h = Holds.group n r e (holds_kept inside q h) (holds_kept rest q h)

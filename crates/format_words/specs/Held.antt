@@ -3,8 +3,8 @@
 use Rattle.std.specs.Prelude.{◌≡◌, List, [], ◌∷◌, ◌++◌, ℕ, ◌+◌, length}
 use Rattle.format_items.specs.Items.{Number, value_of, Repeat, times, Field, Items}
 use Rattle.format_items.specs.Met.{Met, field_values}
-use Rattle.format_words.specs.Words.{met_of, RunWord}
-use Rattle.format_words.specs.declared.Word.{Word}
+use Rattle.format_words.specs.Words.{met_in, RunPacked}
+use Rattle.format_words.specs.declared.packed.Packed.{Packed}
 use Rattle.format_words.specs.declared.Entry.{Entry}
 use Rattle.format_words.specs.declared.Entry.TheVariants as entry
 
@@ -19,8 +19,8 @@ pub data First : Items → ℕ → Met → Items → Type 0 where
 -- the entries hold the items, in which l levels of groups may open; the characters of literals are among the first c of t
 pub data Holds (t : List ℕ) (c : ℕ) : ℕ → List Entry → Items → Type 0 where
   none : {l : ℕ} → Holds t c l [] Items.none
-  item : {l r : ℕ} {w : Word} {rest : List Entry} {xs next : Items}
-      → First xs r (met_of t w) next → RunWord c w → Holds t c l rest next → Holds t c l (entry.Item w r ∷ rest) xs
+  item : {l r : ℕ} {w : Packed} {rest : List Entry} {xs next : Items}
+      → First xs r (met_in t w) next → RunPacked c w → Holds t c l rest next → Holds t c l (entry.Item r w ∷ rest) xs
   group : {l n k : ℕ} {r : Repeat} {one two rest : List Entry} {inside next : Items} → n ≡ length one → k ≡ times r → rest ≡ one ++ two
       → Holds t c l one inside → Holds t c (l + 1) two next → Holds t c (l + 1) (entry.Group n k ∷ rest) (Items.group r inside next)
 

@@ -1,2 +1,3 @@
+pub mod Packing
 pub mod Words
 pub mod Held

@@ -5,6 +5,8 @@ use Rattle.format_items.specs.Items.{Field}
 use Rattle.format_items.specs.Met.{Met}
 use Rattle.format_words.specs.declared.Word.{Word}
 use Rattle.format_words.specs.declared.Word.TheVariants as word
+use Rattle.format_words.specs.declared.packed.Packed.{Packed}
+use Rattle.format_words.specs.Packing.{word_in}
 
 -- a literal's characters stand in t
 abbrev pub met_of : List ℕ → Word → Met
@@ -17,6 +19,10 @@ met_of t (word.X n) = Met.X n
 met_of t (word.T n) = Met.T n
 met_of t word.Slash = Met.slash
 met_of t (word.Literal start n) = Met.literal (take n (drop start t))
+
+-- that for which a packed word stands
+abbrev pub met_in : List ℕ → Packed → Met
+met_in t p = met_of t (word_in p)
 
 -- how far into the characters a word reaches: a literal up to its end, others not at all
 abbrev pub reach : Word → ℕ
@@ -34,6 +40,10 @@ reach (word.Literal start n) = start + n
 abbrev pub RunWord : ℕ → Word → Type 0
 RunWord c w = reach w ≤ c
 
--- every word is such
-abbrev pub RunWords : ℕ → List Word → Type 0
-RunWords c ws = All (RunWord c) ws
+-- those of a packed word are
+abbrev pub RunPacked : ℕ → Packed → Type 0
+RunPacked c p = RunWord c (word_in p)
+
+-- every packed word is such
+abbrev pub RunWords : ℕ → List Packed → Type 0
+RunWords c ps = All (RunPacked c) ps

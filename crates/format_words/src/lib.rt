@@ -1,7 +1,10 @@
 // Items met as words, and the items of a format as entries.
 #![tactic(auto)]
 
+pub mod packed;
 pub mod run;
+
+use crate::packed::Packed;
 
 // An item met. The numbers of a literal are the offset and the count of its characters, which are kept beside the words.
 #[derive(Clone, Copy, PartialEq, Eq, Debug)]
@@ -17,23 +20,19 @@ pub enum Word {
     Literal { start: u16, len: u16 },
 }
 
-impl Word {
-    // What an array of words holds before it is filled.
-    pub const ZERO: Word = Word::I { width: 0 };
-}
-
 // An item with its repeat; or a group with its repeat, whose items are held by so many of the entries after it. (Fixed memory, a
-// rule of the project, so a count of entries and no `Box` or `Vec`.)
+// rule of the project, so a count of entries and no `Box` or `Vec`. Fields lie in the order of the source: with the repeat first an
+// entry takes 8 bytes, else 12.)
 #[derive(Clone, Copy, PartialEq, Eq, Debug)]
 pub enum Entry {
-    Item { word: Word, repeat: u16 },
+    Item { repeat: u16, word: Packed },
     Group { entries: u16, repeat: u16 },
 }
 
 impl Entry {
     // What an array of entries holds before it is filled.
     pub const ZERO: Entry = Entry::Item {
-        word: Word::ZERO,
         repeat: 0,
+        word: Packed::ZERO,
     };
 }

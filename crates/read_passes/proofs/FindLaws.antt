@@ -1,6 +1,6 @@
--- What is found under the word of a field is what the field gives.
+-- What is found under a field, by the wanted kind and the places, is what the field gives.
 -- Assumes nothing.
-use Rattle.std.proofs.Common.{◌≡◌, refl, ap, ◌∙◌, Bool, true, false, List, ℕ, ◌+◌, ◌≤◌, length, take, drop}
+use Rattle.std.proofs.Common.{◌≡◌, refl, ap, subst, ◌∙◌, Bool, true, false, List, ℕ, ◌+◌, ◌≤◌, length, take, drop}
 use Rattle.std.specs.Prelude.{Option, Some, None}
 use Rattle.buffer.specs.Characters.{all_printable}
 use Rattle.buffer.proofs.Splicing.{length_part}
@@ -10,17 +10,13 @@ use Rattle.field_read.specs.LogicalRead.{logical_read}
 use Rattle.field_read.specs.declared.Number.{Number}
 use Rattle.field_read.proofs.Promises.{text_read_length}
 use Rattle.format_items.specs.Items.{Field}
-use Rattle.format_items.specs.Met.{Met}
-use Rattle.format_words.specs.Words.{met_of}
-use Rattle.format_words.specs.declared.Word.{Word}
-use Rattle.format_words.specs.declared.Word.TheVariants as word
 use Rattle.list_elements.specs.declared.Value.{Value}
 use Rattle.list_elements.specs.Elements.{Kind, integer, decimal, logical, text, text_length, text_bytes}
-use Rattle.sheet_walk.specs.Given.{WordCovers}
-use Rattle.read_passes.specs.Given.{Given, gives, nothing, integer_given, decimal_given, logical_given, text_given, field_gives, kind_at}
+use Rattle.sheet_walk.specs.Given.{PlacesAre}
+use Rattle.read_passes.specs.Given.{Given, gives, nothing, integer_given, decimal_given, logical_given, text_given, field_gives}
 use Rattle.read_passes.specs.Passes.{integer_found, decimal_found, logical_found, text_found, found_in, FoundAs}
 use Rattle.read_passes.proofs.GivenLaws.{is_integer_lem, is_decimal_lem, is_logical_lem, is_text_lem}
-use Rattle.sheet_walk.specs.Steps.{widest_record}
+use Rattle.sheet_walk.specs.Steps.{widest_record, suits, is_text}
 
 -- what a field gives, as the code answers it
 abbrev pub GivenAs : List ℕ → Kind → Given → Option Value → Type 0
@@ -55,17 +51,23 @@ module _ (records : List ℕ) where
       go true g = rw g (_, refl, record { is = rw long refl; of_kind = ap text (text_read_length (text_length k) part) ∙ e; inside = rw long room; narrow = rw long few })
       go false g = rw g refl
 
-module _ {t : List ℕ} {kinds : List Kind} {i w : ℕ} (records : List ℕ) (at : ℕ) (room : at + w ≤ length records) (few : w ≤ widest_record) where
-  -- a word that is not a literal's is a field's
-  pub found_as : (x : Word) → WordCovers t kinds x i w → ((a n : ℕ) → x ≡ word.Literal a n → ⊥)
-      → (f : Field ℕ) × (met_of t x ≡ Met.field f) × GivenAs records (kind_at kinds i) (field_gives f (kind_at kinds i) (take w (drop at records))) (found_in x (take w (drop at records)) at)
+module _ (records : List ℕ) (at w : ℕ) (room : at + w ≤ length records) (few : w ≤ widest_record) where
+  found_text_lem : (k : Kind) (d : ℕ) → is_text k ≡ true → GivenAs records k (text_given (text_length k) (take w (drop at records))) (found_in k d (take w (drop at records)) at)
+  found_text_lem k d s =
+      subst (λ z. GivenAs records k (text_given (text_length k) (take w (drop at records))) (found_in z d (take w (drop at records)) at)) (is_text_lem k s)
+      (found_text records k at w (is_text_lem k s) room few)
+
+  -- under a field that the kind suits
+  pub found_as : (k : Kind) (d : ℕ) (f : Field ℕ) → suits f k ≡ true → PlacesAre d f → GivenAs records k (field_gives f k (take w (drop at records))) (found_in k d (take w (drop at records)) at)
   unfolding field_gives
-  found_as (word.I n) p u = (Field.I n, refl, found_integer records (kind_at kinds i) (is_integer_lem (kind_at kinds i) p.covers.suited) (read_field Numeric.I (take w (drop at records))))
-  found_as (word.F n d) p u = (Field.F n d, refl, found_decimal records (kind_at kinds i) (is_decimal_lem (kind_at kinds i) p.covers.suited) (read_field (Numeric.F d) (take w (drop at records))))
-  found_as (word.L n) p u = (Field.L n, refl, found_logical records (kind_at kinds i) (is_logical_lem (kind_at kinds i) p.covers.suited) (logical_read (take w (drop at records))))
-  found_as word.A p u = (Field.A, refl, found_text records (kind_at kinds i) at w (is_text_lem (kind_at kinds i) p.covers.suited) room few)
-  found_as (word.Aw n) p u = (Field.Aw n, refl, found_text records (kind_at kinds i) at w (is_text_lem (kind_at kinds i) p.covers.suited) room few)
-  found_as (word.X n) p u = absurd p.covers
-  found_as (word.T n) p u = absurd p.covers
-  found_as word.Slash p u = absurd p.covers
-  found_as (word.Literal a n) p u = absurd (u a n refl)
+  found_as k d (Field.I n) s p =
+      subst (λ z. GivenAs records k (integer_given (read_field Numeric.I (take w (drop at records)))) (found_in z d (take w (drop at records)) at)) (is_integer_lem k s)
+      (found_integer records k (is_integer_lem k s) (read_field Numeric.I (take w (drop at records))))
+  found_as k d (Field.F n e) s p =
+      subst (λ z. GivenAs records k (decimal_given (read_field (Numeric.F e) (take w (drop at records)))) (found_in z d (take w (drop at records)) at)) (is_decimal_lem k s)
+      (rw p (found_decimal records k (is_decimal_lem k s) (read_field (Numeric.F e) (take w (drop at records)))))
+  found_as k d (Field.L n) s p =
+      subst (λ z. GivenAs records k (logical_given (logical_read (take w (drop at records)))) (found_in z d (take w (drop at records)) at)) (is_logical_lem k s)
+      (found_logical records k (is_logical_lem k s) (logical_read (take w (drop at records))))
+  found_as k d Field.A s p = found_text_lem k d s
+  found_as k d (Field.Aw n) s p = found_text_lem k d s

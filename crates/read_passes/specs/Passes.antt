@@ -1,14 +1,13 @@
 -- What the pass of reading finds, and the list made of it. (Nothing here need be believed: the public call's contract does not
 -- speak of it.)
 -- Assumes nothing.
-use Rattle.std.specs.Prelude.{◌≡◌, Bool, cond, List, ℕ, ◌+◌, ◌<◌, ◌≤◌, pos, length, get_or, Option, Some, None, Result, Ok, Err}
+use Rattle.std.specs.Prelude.{◌≡◌, Bool, cond, List, ◌++◌, ℕ, ◌+◌, ◌<◌, ◌≤◌, pos, length, get_or, Option, Some, None, Result, Ok, Err}
 use Rattle.field_written.specs.Numeral.{Numeric}
 use Rattle.field_read.specs.Read.{read_field}
 use Rattle.field_read.specs.LogicalRead.{logical_read}
 use Rattle.field_read.specs.TextRead.{text_readable, text_read}
 use Rattle.field_read.specs.declared.Number.{Number}
-use Rattle.format_words.specs.declared.Word.{Word}
-use Rattle.format_words.specs.declared.Word.TheVariants as word
+use Rattle.list_elements.specs.Elements as kind
 use Rattle.list_elements.specs.Elements.{Kind, text_length, zero_value, value_of, text_bytes, kinds_of, most_elements}
 use Rattle.list_elements.specs.Limits.{texts_length}
 use Rattle.list_elements.specs.Contents as content
@@ -16,8 +15,14 @@ use Rattle.list_elements.specs.Contents.{Content, content_kind}
 use Rattle.list_elements.specs.declared.Value.{Value}
 use Rattle.list_elements.specs.declared.Value.TheVariants as value
 use Rattle.list_elements.specs.declared.Element.{Element}
+use Rattle.sheet_walk.specs.Walk.{Trace, walk}
+use Rattle.sheet_walk.specs.Given.{given_sheet}
+use Rattle.sheet_walk.specs.Followed.{Begins}
+use Rattle.sheet_walk.specs.declared.Cover.{Cover}
 use Rattle.sheet_walk.specs.declared.Refusal.{Refusal}
-use Rattle.read_passes.specs.Given.{Gathered, accepted, refused, kind_at}
+use Rattle.sheet_walk.specs.declared.Refusal.TheVariants.{FieldText}
+use Rattle.read_passes.specs.declared.Sheet.{Sheet}
+use Rattle.read_passes.specs.Given.{Gathered, accepted, refused, kind_at, gathered}
 use Rattle.sheet_walk.specs.Steps.{widest_record}
 
 -- ---- one field
@@ -38,17 +43,12 @@ logical_found None = None
 abbrev pub text_found : List ℕ → ℕ → Option Value
 text_found t at = cond (text_readable t) (Some (value.Text (record { start = at; len = length t }))) None
 
--- under the word of a field; of an item that is none, as under A
-abbrev pub found_in : Word → List ℕ → ℕ → Option Value
-found_in (word.I w) t at = integer_found (read_field Numeric.I t)
-found_in (word.F w d) t at = decimal_found (read_field (Numeric.F d) t)
-found_in (word.L w) t at = logical_found (logical_read t)
-found_in word.A t at = text_found t at
-found_in (word.Aw w) t at = text_found t at
-found_in (word.X n) t at = text_found t at
-found_in (word.T n) t at = text_found t at
-found_in word.Slash t at = text_found t at
-found_in (word.Literal a n) t at = text_found t at
+-- for an element of a kind, under a field with so many places
+abbrev pub found_in : Kind → ℕ → List ℕ → ℕ → Option Value
+found_in kind.integer d t at = integer_found (read_field Numeric.I t)
+found_in kind.decimal d t at = decimal_found (read_field (Numeric.F d) t)
+found_in kind.logical d t at = logical_found (logical_read t)
+found_in (kind.text m) d t at = text_found t at
 
 -- ---- what it holds
 
@@ -91,6 +91,42 @@ FoundSoFar records kinds found cs =
 abbrev pub ending_of : Gathered → Result ℕ Refusal
 ending_of (accepted cs n) = Ok n
 ending_of (refused why) = Err why
+
+-- the walk of a sheet, and what is gathered on one
+abbrev pub walk_of : Sheet → Trace
+walk_of s = walk (given_sheet s.run s.wanted.now s.records)
+
+abbrev pub gathered_of : Sheet → Trace → Gathered
+gathered_of s t = gathered s.records.width (kinds_of s.wanted.now) s.bytes.now t
+
+-- ---- a part of the walk
+
+-- it begins with these columns, so many elements being taken before
+abbrev pub BeginsIn : Sheet → ℕ → List Cover → Trace → ℕ → Trace → Type 0
+BeginsIn s first cs whole taken left = Begins (given_sheet s.run s.wanted.now s.records) s.run.chars.now first cs whole taken left
+
+pub record SomeBegins (s : Sheet) (first : ℕ) (cs : List Cover) : Type 0 where
+  pub whole : Trace
+  pub taken : ℕ
+  pub left : Trace
+  pub begins : BeginsIn s first cs whole taken left
+
+-- what was gathered before the rest
+abbrev pub joined : List Content → Gathered → Gathered
+joined cs (accepted ds n) = accepted (cs ++ ds) n
+joined cs (refused why) = refused why
+
+-- the elements taken hold cs, and what is left of the walk gives, after them, what the whole gives
+pub record Gathering (s : Sheet) (whole : Trace) (taken : ℕ) (left : Trace) (found : List Element) : Type 0 where
+  pub cs : List Content
+  pub many : length cs ≡ taken
+  pub so_far : FoundSoFar s.bytes.now (kinds_of s.wanted.now) found cs
+  pub same : joined cs (gathered_of s left) ≡ gathered_of s whole
+
+-- the first element whose field is no such field (row 12), as the code answers it
+abbrev pub TookAs : Sheet → Trace → ℕ → Trace → List Element → Option ℕ → Type 0
+TookAs s whole taken left found None = Gathering s whole taken left found
+TookAs s whole taken left found (Some i) = gathered_of s whole ≡ refused (FieldText i)
 
 -- ---- the list
 

@@ -7,6 +7,7 @@ use format_load::arrays::with_run;
 use format_words::run::Run;
 use list_elements::texts::texts_fit;
 use list_elements::{BadElement, Element};
+use read_passes::Sheet;
 use read_passes::reading::read_pass;
 use sheet_walk::Refusal;
 use sheet_walk::records::Records;
@@ -31,7 +32,13 @@ fn read_run(
         return Err(Refusal::TextArea);
     }
     let lent = Records::lent(width, records)?;
-    read_pass(run, wanted, lent, records, found)
+    let sheet = Sheet {
+        run,
+        wanted,
+        records: lent,
+        bytes: records,
+    };
+    read_pass(sheet, found)
 }
 
 // Rows 2 to 6, 13 and 9, and the walk: under any format. (`found` is lent to the closure, so it is in no struct with the others.)

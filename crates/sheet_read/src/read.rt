@@ -31,10 +31,12 @@ pub fn read(
     let wanted = wanted.wanted();
     let mut found = [Element::ZERO; List::MOST];
     let reached = read_under(width, format, wanted, area.len(), records, &mut found)?;
-    let list = give(wanted.unwrap(), &found, records, area);
     let counts = Counts {
         records: reached,
         starred: 0,
     };
-    Ok(SheetRead { counts, list })
+    let list = List::empty();
+    let mut read = SheetRead { counts, list };
+    give(wanted.unwrap(), &found, records, area, &mut read.list);
+    Ok(read)
 }

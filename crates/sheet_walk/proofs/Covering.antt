@@ -20,7 +20,8 @@ use Rattle.sheet_walk.specs.Steps.{Records, What, element, literal, Placement, S
 use Rattle.sheet_walk.specs.Walk.{Sheet, sheet, Trace, put, done, stopped, after, pass, returns, at_end, walk}
 use Rattle.sheet_walk.specs.Columns.{In, here, there}
 use Rattle.sheet_walk.specs.Promises.{StopsWith, Comes, RefusedThere, RefusedBecause, EndsThere, CoversThere, ItemRefused, EndRefused, LiteralsWide, Walkable, EndsWith, Inside, Suited, place_of, elements_put, numbers_from, CoversInside, CoversReached, ElementsSuited, PutsEach}
-use Rattle.sheet_walk.proofs.StepLaws.{fields_in, Moved, CoveredBy, Covered, Does, step_does, AtEnd, end_does}
+use Rattle.sheet_walk.specs.Followed.{fields_in}
+use Rattle.sheet_walk.proofs.StepLaws.{Moved, CoveredBy, Covered, Does, step_does, AtEnd, end_does}
 
 -- ---- the sheet of an accepted format
 

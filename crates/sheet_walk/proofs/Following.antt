@@ -1,8 +1,8 @@
 -- What the code's walk does at each item: what is left of it, and that it comes to an end.
 -- Assumes nothing.
-use Rattle.std.proofs.Common.{◌≡◌, refl, sym, ap, subst, ◌∙◌, true, false, List, [], ◌∷◌, ℕ, zero, suc, ◌+◌, ◌<◌, ◌≤◌, arith, length, take, drop, get_or, length-drop}
+use Rattle.std.proofs.Common.{◌≡◌, refl, sym, ap, subst, ◌∙◌, true, false, List, [], ◌∷◌, ℕ, zero, suc, ◌+◌, ◌*◌, ◌<◌, ◌≤◌, arith, length, take, drop, get_or, length-drop}
 use lib.Seq.{length-take-le}
-use Rattle.std.specs.Prelude.{Option, Some, None, Result, Ok, Err}
+use Rattle.std.specs.Prelude.{Result, Ok, Err}
 use Rattle.std.proofs.lemmas.List.{length-map, get_or_default}
 use Rattle.std.proofs.lemmas.List.Elements.{All-get_or}
 use borrow.Author.Tests.{le-leb, lt-leb}
@@ -11,7 +11,9 @@ use Rattle.format_items.specs.Items.{Field}
 use Rattle.format_items.specs.Met.{Met}
 use Rattle.format_items.specs.MetRanges.{MetWithin, AllMetWithin}
 use Rattle.format_items.proofs.MetWithinLaws.{drop_within}
-use Rattle.format_words.specs.Words.{met_of, RunWord}
+use Rattle.format_words.specs.Words.{met_of, met_in, RunPacked}
+use Rattle.format_words.specs.Packing.{word_in, columns_in}
+use Rattle.format_words.specs.declared.packed.Packed.{Packed}
 use Rattle.format_words.specs.declared.Word.{Word}
 use Rattle.format_words.specs.declared.Word.TheVariants as word
 use Rattle.list_elements.specs.Elements.{Kind}
@@ -20,36 +22,31 @@ use Rattle.sheet_walk.specs.declared.Refusal.TheVariants as refusal
 use Rattle.sheet_walk.specs.declared.State.{State}
 use Rattle.sheet_walk.specs.declared.Cover.{Cover}
 use Rattle.sheet_walk.specs.declared.walk.Walk.{Walk}
+use Rattle.sheet_walk.specs.declared.walk.Turn.{Turn}
+use Rattle.sheet_walk.specs.declared.walk.Turn.TheVariants as turn
 use Rattle.sheet_walk.specs.Steps.{Records, What, element, literal, Placement, Step, moves, covers, refused, ends, cover_step, field_step, x_step, t_step, next_record, step, has_field, end_step}
 use Rattle.sheet_walk.specs.Walk.{Sheet, put, done, stopped, after}
 use Rattle.sheet_walk.specs.Promises.{Walkable}
-use Rattle.sheet_walk.specs.Given.{items_of, what_of, Covering, fields_of}
-use Rattle.sheet_walk.specs.Followed.{sheet_of, left_of, SameSheet, CoverIs, cover_of, MovesAs, AnswersAs, NextIs}
+use Rattle.sheet_walk.specs.Laid.{offset_of}
+use Rattle.sheet_walk.specs.Given.{items_of, KeepsLiteral, Keeps, takes, fields_of}
+use Rattle.sheet_walk.specs.Followed.{sheet_of, left_of, SameSheet, MovesAs, CoversAs, AnswersAs, turns_left, turns_of, MovesNext, CoversNext, TurnIs}
 use Rattle.sheet_walk.proofs.StepLaws.{CoveredBy, Covered, Does, step_does, AtEnd, end_does}
 use Rattle.sheet_walk.proofs.Covering.{Stands, covered_inside}
 use Rattle.sheet_walk.proofs.Windows.{inside_room}
-use Rattle.sheet_walk.proofs.Turns.{walk_at, item_at, turns_left, item_turn, item_less, end_turn, end_less}
+use Rattle.sheet_walk.proofs.Keeping.{field_kept, literal_kept, field_takes, literal_takes}
+use Rattle.sheet_walk.proofs.Turns.{walk_at, item_at, item_turn, item_less, end_turn, end_less}
 
-within_at : (xs : List Met) (i : ℕ) → AllMetWithin xs → MetWithin (get_or xs i Met.slash)
+pub within_at : (xs : List Met) (i : ℕ) → AllMetWithin xs → MetWithin (get_or xs i Met.slash)
 within_at [] i h = tt
 within_at (x ∷ xs) zero h = h.0
 within_at (x ∷ xs) (suc i) h = within_at xs i h.1
 
--- ---- what covers columns, by its item
-
-covered_what : (kinds : List Kind) (x : Met) (s : State) (w : ℕ) (what : What) → CoveredBy kinds x s w what → what ≡ what_of x s.taken
-covered_what kinds x s w (element i f) by = rw (by.0, by.1)
-covered_what kinds x s w (literal cs) by = rw by.0
-
-covered_covering : (kinds : List Kind) (x : Met) (s : State) (w : ℕ) (what : What) → CoveredBy kinds x s w what → Covering kinds x s.taken w
-covered_covering kinds x s w (element i f) by = rw (by.0, ← by.1) by.2
-covered_covering kinds x s w (literal cs) by = rw by.0 by.1
+-- a literal covers as many columns as it has characters
+literal_wide : (kinds : List Kind) (cs : List ℕ) (s : State) (w : ℕ) (what : What) → CoveredBy kinds (Met.literal cs) s w what → w ≡ length cs
+literal_wide kinds cs s w (element i f) by = let e = by.0 in let z : ⊥ = cc in absurd z
+literal_wide kinds cs s w (literal ds) by = let e = by.0 in let z : ds ≡ cs = cc in by.1 ∙ ap length z
 
 -- ---- a walk, and where it stands
-
--- the most turns still to come
-abbrev pub turns_of : Walk → ℕ
-turns_of w = turns_left (sheet_of w) w.index w.state
 
 module _ (w : Walk) where
   abbrev pub h : Sheet
@@ -63,23 +60,23 @@ module _ (w : Walk) where
 
   -- another walk that goes by the same
   module _ (v : Walk) (same : SameSheet w v) where
-    sheets : sheet_of v ≡ sheet_of w
+    pub sheets : sheet_of v ≡ sheet_of w
     sheets = rw (same.run, same.elements, same.records)
 
-    left_is : {i : ℕ} → v.index ≡ i → left_of v ≡ walk_at h i v.state
+    pub left_is : {i : ℕ} → v.index ≡ i → left_of v ≡ walk_at h i v.state
     left_is e = ap (λ k. walk_at k v.index v.state) sheets ∙ ap (λ j. walk_at h j v.state) e
 
-    turns_are : {i : ℕ} → v.index ≡ i → turns_of v ≡ turns_left h i v.state
+    pub turns_are : {i : ℕ} → v.index ≡ i → turns_of v ≡ turns_left h i v.state
     turns_are e = ap (λ k. turns_left k v.index v.state) sheets ∙ ap (λ j. turns_left h j v.state) e
 
   -- ---- at an item
 
-  module _ (x d : Word) (i : w.index < length w.run.words.now) (is : get_or w.run.words.now w.index d ≡ x) where
+  module _ (x : Word) (d : Packed) (i : w.index < length w.run.words.now) (is : word_in (get_or w.run.words.now w.index d) ≡ x) where
     inside : w.index < length h.items
     inside = rw length-map i
 
     item_is : item_at h w.index ≡ met_of w.run.chars.now x
-    item_is = get_or_default (items_of w.run) w.index Met.slash (met_of w.run.chars.now d) inside ∙ get_or-map (met_of w.run.chars.now) w.run.words.now w.index d ∙ ap (met_of w.run.chars.now) is
+    item_is = get_or_default (items_of w.run) w.index Met.slash (met_in w.run.chars.now d) inside ∙ get_or-map (met_in w.run.chars.now) w.run.words.now w.index d ∙ ap (met_of w.run.chars.now) is
 
     abbrev pub the_step : Step
     the_step = step h.kinds h.records (met_of w.run.chars.now x) w.state
@@ -90,30 +87,25 @@ module _ (w : Walk) where
     does : Does h.kinds h.records (met_of w.run.chars.now x) w.state the_step
     does = step_does h.kinds h.records w.state (met_of w.run.chars.now x)
 
-    -- v is left of the walk after it
-    pub record Moved (v : Walk) : Type 0 where
-      pub left : left_of w ≡ left_of v
-      pub less : turns_of v < turns_of w
-      pub taken : v.state.taken ≡ w.state.taken + fields_of (met_of w.run.chars.now x)
-
-    moves_on : (v : Walk) → SameSheet w v → v.index ≡ w.index + 1 → MovesAs the_step (Ok tt) v.state → Moved v
-    moves_on v same e = go the_step does left_after
+    moves_on : fields_of (met_of w.run.chars.now x) ≡ 0 → (v : Walk) → SameSheet w v → v.index ≡ w.index + 1 → MovesAs the_step (Ok tt) v.state → MovesNext w v
+    moves_on none v same e = go the_step does left_after
       where
-        go : (st : Step) → Does h.kinds h.records (met_of w.run.chars.now x) w.state st → left_of w ≡ after st w.state (walk_at h (w.index + 1)) → MovesAs st (Ok tt) v.state → Moved v
+        go : (st : Step) → Does h.kinds h.records (met_of w.run.chars.now x) w.state st → left_of w ≡ after st w.state (walk_at h (w.index + 1)) → MovesAs st (Ok tt) v.state → MovesNext w v
         go (moves n) d l m =
             let f : n.taken ≡ w.state.taken + fields_of (item_at h w.index) = d.0.takes ∙ ap (λ (y : Met). w.state.taken + fields_of y) (sym item_is) in
             record {
               left = l ∙ sym (left_is v same e ∙ ap (walk_at h (w.index + 1)) m.1);
-              less = rw (turns_are v same e, m.1) (item_less h w.index w.state inside n f);
-              taken = ap (λ z. z.taken) m.1 ∙ d.0.takes;
+              same = same;
+              taken = omega (arith, ap (λ z. z.taken) m.1, d.0.takes, none);
+              fewer = rw (turns_are v same e, m.1) (item_less h w.index w.state inside n f);
             }
         go (covers p n) d l m = absurd m
         go (refused why) d l m = let z : ⊥ = cc in absurd z
         go ends d l m = absurd m
 
-    -- as the answer r of a step says
-    pub item_moves : (v : Walk) → SameSheet w v → v.index ≡ w.index + 1 → {st : Step} → st ≡ the_step → {r : Result Unit Refusal} → r ≡ Ok tt → MovesAs st r v.state → Moved v
-    item_moves v same e {st} g q m = moves_on v same e (subst (λ z. MovesAs z (Ok tt) v.state) g (subst (λ z. MovesAs st z v.state) q m))
+    -- as the answer r of a step says, where the item is no field
+    pub item_moves : fields_of (met_of w.run.chars.now x) ≡ 0 → (v : Walk) → SameSheet w v → v.index ≡ w.index + 1 → {st : Step} → st ≡ the_step → {r : Result Unit Refusal} → r ≡ Ok tt → MovesAs st r v.state → MovesNext w v
+    item_moves none v same e {st} g q m = moves_on none v same e (subst (λ z. MovesAs z (Ok tt) v.state) g (subst (λ z. MovesAs st z v.state) q m))
 
     pub item_refused : (why : Refusal) (s : State) {st : Step} → st ≡ the_step → {r : Result Unit Refusal} → r ≡ Err why → MovesAs st r s → left_of w ≡ stopped why
     item_refused why s {st} g q m = go the_step left_after (subst (λ z. MovesAs z (Err why) s) g (subst (λ z. MovesAs st z s) q m))
@@ -124,59 +116,83 @@ module _ (w : Walk) where
         go (refused y) l m = l ∙ (let z : y ≡ why = cc in ap stopped z)
         go ends l m = absurd m
 
-    cover_is : (p : Placement) (n : State) → Covered h.kinds h.records (met_of w.run.chars.now x) w.state p n → CoverIs h w.run.chars.now (cover_of h.records.width x w.state.taken p) p
-    cover_is p n e =
-        let k = covered_inside h (met_of w.run.chars.now x) w.state n p h.records.count stands e walkable w.in_record in
-        record {
-          at = refl;
-          width = refl;
-          what = covered_what h.kinds (met_of w.run.chars.now x) w.state p.width p.what e.by;
-          word = record {
-            sound = subst (RunWord (length w.run.chars.now)) is (All-get_or (RunWord (length w.run.chars.now)) w.run.words.now w.index d i w.run.sound);
-            within = subst MetWithin item_is (within_at h.items w.index w.run.within);
-            covers = covered_covering h.kinds (met_of w.run.chars.now x) w.state p.width p.what e.by;
-          };
-          room = inside_room h.records.width h.records.count p k;
-          few = omega (arith, k.from, k.to, w.records.narrow);
-        }
+    -- v is left of the walk after the columns of p, which c keeps
+    module _ (v : Walk) (same : SameSheet w v) (e : v.index ≡ w.index + 1) where
+      covers_on : (p : Placement) (n : State) (c : Cover) → Covered h.kinds h.records (met_of w.run.chars.now x) w.state p n → left_of w ≡ put p (walk_at h (w.index + 1) n) → v.state ≡ n
+          → c.at ≡ offset_of h.records.width p → columns_in c.word ≡ p.width → Keeps w.run.chars.now h.kinds w.state.taken p.width c.word p.what → takes c.word ≡ fields_of (met_of w.run.chars.now x)
+          → CoversNext w v c
+      covers_on p n c d l q at wide keeps many =
+          let i = covered_inside h (met_of w.run.chars.now x) w.state n p h.records.count stands d walkable w.in_record in
+          let r : offset_of h.records.width p + p.width ≤ h.records.count * h.records.width = inside_room h.records.width h.records.count p i in
+          let f : n.taken ≡ w.state.taken + fields_of (item_at h w.index) = d.moved.takes ∙ ap (λ (y : Met). w.state.taken + fields_of y) (sym item_is) in
+          record {
+            placement = p;
+            left = l ∙ ap (put p) (sym (left_is v same e ∙ ap (walk_at h (w.index + 1)) q));
+            same = same;
+            is = record { at = at; width = wide; what = keeps; room = rw (at, wide) r; few = omega (arith, wide, i.from, i.to, w.records.narrow) };
+            taken = ap (λ z. z.taken) q ∙ d.moved.takes ∙ ap (λ z. w.state.taken + z) (sym many);
+            fewer = rw (turns_are v same e, q) (item_less h w.index w.state inside n f);
+          }
 
-    pub item_answers : (v : Walk) → SameSheet w v → v.index ≡ w.index + 1 → (r : Result (Option Cover) Refusal) {st : Step} → st ≡ the_step → AnswersAs h.records x w.state st r v.state → NextIs w r v
-    item_answers v same e r g m = go the_step does left_after (subst (λ z. AnswersAs h.records x w.state z r v.state) g m)
-      where
-        go : (st : Step) → Does h.kinds h.records (met_of w.run.chars.now x) w.state st → left_of w ≡ after st w.state (walk_at h (w.index + 1))
-            → AnswersAs h.records x w.state st r v.state → NextIs w r v
-        go (moves n) d l m = absurd m
-        go (covers p n) d l m =
-            rw m.0
-            (record {
-              placement = p;
-              left = l ∙ ap (put p) (sym (left_is v same e ∙ ap (walk_at h (w.index + 1)) m.1));
-              same = same;
-              is = cover_is p n d;
-              met = refl;
-              taken = ap (λ z. z.taken) m.1 ∙ d.moved.takes;
-            })
-        go (refused why) d l m = rw m l
-        go ends d l m = rw (m.0, m.1) l
+      -- a field, as the answer r of its step says
+      pub field_answers : (f : Field ℕ) → met_of w.run.chars.now x ≡ Met.field f → (r : Result Turn Refusal) → {st : Step} → st ≡ the_step → AnswersAs h.records f w.state st r v.state → TurnIs w r v
+      field_answers f y r g m = go the_step does left_after (subst (λ z. AnswersAs h.records f w.state z r v.state) g m)
+        where
+          go : (st : Step) → Does h.kinds h.records (met_of w.run.chars.now x) w.state st → left_of w ≡ after st w.state (walk_at h (w.index + 1)) → AnswersAs h.records f w.state st r v.state → TurnIs w r v
+          go (moves n) d l m = absurd m
+          go (covers p n) d l m =
+              let within : MetWithin (Met.field f) = subst MetWithin (item_is ∙ y) (within_at h.items w.index w.run.within) in
+              let keeps = field_kept w.run.chars.now h.kinds w.state p.width m.0.word f p.what (rw y at d.by) within m.2.keeps in
+              rw m.1 (covers_on p n m.0 d l m.3 m.2.at m.2.keeps.wide keeps (field_takes m.2.keeps ∙ rw y refl))
+          go (refused why) d l m = rw m l
+          go ends d l m = rw (m.0, m.1) l
+
+      -- a literal
+      pub literal_answers : (cs : List ℕ) → met_of w.run.chars.now x ≡ Met.literal cs → {at : ℕ} (c : Cover) → c.at ≡ at → KeepsLiteral w.run.chars.now c.word cs → columns_in c.word ≡ length cs
+          → {st : Step} → st ≡ the_step → {r : Result ℕ Refusal} → r ≡ Ok at → CoversAs h.records st r v.state → TurnIs w (Ok (turn.Covers c)) v
+      literal_answers cs y {at} c o k wide {st} g q m = go the_step does left_after (subst (λ z. CoversAs h.records z (Ok at) v.state) g (subst (λ z. CoversAs h.records st z v.state) q m))
+        where
+          go : (st : Step) → Does h.kinds h.records (met_of w.run.chars.now x) w.state st → left_of w ≡ after st w.state (walk_at h (w.index + 1)) → CoversAs h.records st (Ok at) v.state → CoversNext w v c
+          go (moves n) d l m = absurd m
+          go (covers p n) d l m =
+              let a = m.0 in
+              let z : at ≡ offset_of h.records.width p = cc in
+              let by : CoveredBy h.kinds (Met.literal cs) w.state p.width p.what = rw y at d.by in
+              covers_on p n c d l m.1 (o ∙ z) (wide ∙ sym (literal_wide h.kinds cs w.state p.width p.what by)) (literal_kept w.run.chars.now h.kinds w.state p.width c.word cs p.what by k) (literal_takes k ∙ rw y refl)
+          go (refused why) d l m = let z : ⊥ = cc in absurd z
+          go ends d l m = absurd m
+
+      pub literal_refused : {why : Refusal} {st : Step} → st ≡ the_step → {r : Result ℕ Refusal} → r ≡ Err why → CoversAs h.records st r v.state → left_of w ≡ stopped why
+      literal_refused {why} {st} g q m = go the_step left_after (subst (λ z. CoversAs h.records z (Err why) v.state) g (subst (λ z. CoversAs h.records st z v.state) q m))
+        where
+          go : (st : Step) → left_of w ≡ after st w.state (walk_at h (w.index + 1)) → CoversAs h.records st (Err why) v.state → left_of w ≡ stopped why
+          go (moves n) l m = absurd m
+          go (covers p n) l m = let a = m.0 in let z : ⊥ = cc in absurd z
+          go (refused y) l m = l ∙ (let z : y ≡ why = cc in ap stopped z)
+          go ends l m = absurd m
 
   -- ---- what the word of an item says
 
-  module _ (d : Word) (i : w.index < length w.run.words.now) where
-    word_within : MetWithin (met_of w.run.chars.now (get_or w.run.words.now w.index d))
-    word_within = subst MetWithin (item_is (get_or w.run.words.now w.index d) d i refl) (within_at h.items w.index w.run.within)
+  module _ (d : Packed) (i : w.index < length w.run.words.now) where
+    word_within : MetWithin (met_in w.run.chars.now (get_or w.run.words.now w.index d))
+    word_within = subst MetWithin (item_is (word_in (get_or w.run.words.now w.index d)) d i refl) (within_at h.items w.index w.run.within)
 
-    word_sound : RunWord (length w.run.chars.now) (get_or w.run.words.now w.index d)
-    word_sound = All-get_or (RunWord (length w.run.chars.now)) w.run.words.now w.index d i w.run.sound
+    word_sound : RunPacked (length w.run.chars.now) (get_or w.run.words.now w.index d)
+    word_sound = All-get_or (RunPacked (length w.run.chars.now)) w.run.words.now w.index d i w.run.sound
 
     -- the column of a T
-    pub tab_from : {n : ℕ} → get_or w.run.words.now w.index d ≡ word.T n → 1 ≤ n
+    pub tab_from : {n : ℕ} → word_in (get_or w.run.words.now w.index d) ≡ word.T n → 1 ≤ n
     tab_from {n} e = let m : MetWithin (Met.T n) = rw e at word_within in m.0
 
     -- a literal has as many characters as its word says
-    pub literal_length : {a n : ℕ} → get_or w.run.words.now w.index d ≡ word.Literal a n → n ≡ length (take n (drop a w.run.chars.now))
+    pub literal_length : {a n : ℕ} → word_in (get_or w.run.words.now w.index d) ≡ word.Literal a n → n ≡ length (take n (drop a w.run.chars.now))
     literal_length {a} {n} e =
         let m : a + n ≤ length w.run.chars.now = rw e at word_sound in
         sym (length-take-le n (drop a w.run.chars.now) (omega (arith, length-drop a w.run.chars.now)))
+
+    -- which are those of the run
+    pub literal_inside : {a n : ℕ} → word_in (get_or w.run.words.now w.index d) ≡ word.Literal a n → a + n ≤ length w.run.chars.now
+    literal_inside {a} {n} e = rw e at word_sound
 
   -- ---- at the end of the format
 
@@ -191,23 +207,19 @@ module _ (w : Walk) where
     at_end = end_does h.kinds h.records w.state h.part
 
     -- to the part that the walk returns to
-    pub end_moves : (v : Walk) → SameSheet w v → {st : Step} → st ≡ end_step h.kinds h.records h.part w.state → {r : Result Unit Refusal} → r ≡ Ok tt → MovesAs st r v.state
-        → (left_of w ≡ walk_at (sheet_of v) v.run.back v.state) × (turns_left (sheet_of v) v.run.back v.state < turns_of w) × (v.state.taken ≡ w.state.taken)
-    end_moves v same {st} g q m =
-        let k : (left_of w ≡ walk_at h w.run.back v.state) × (turns_left h w.run.back v.state < turns_of w) × (v.state.taken ≡ w.state.taken) =
-        go (end_step h.kinds h.records h.part w.state) at_end end_after (subst (λ z. MovesAs z (Ok tt) v.state) g (subst (λ z. MovesAs st z v.state) q m)) in
-        let e : h ≡ sheet_of v = sym (sheets v same) in
-        let b : w.run.back ≡ v.run.back = ap (λ u. u.back) (sym same.run) in (
-          k.0 ∙ ap (λ z. walk_at z w.run.back v.state) e ∙ ap (λ j. walk_at (sheet_of v) j v.state) b,
-          subst (λ j. turns_left (sheet_of v) j v.state < turns_of w) b (subst (λ z. turns_left z w.run.back v.state < turns_of w) e k.1),
-          k.2,
-        )
+    pub end_moves : (v u : Walk) → SameSheet w v → u.state ≡ v.state → SameSheet w u → u.index ≡ w.run.back → {st : Step} → st ≡ end_step h.kinds h.records h.part w.state → {r : Result Unit Refusal} → r ≡ Ok tt → MovesAs st r v.state → MovesNext w u
+    end_moves v u same q same_u i {st} g o m = go (end_step h.kinds h.records h.part w.state) at_end end_after (subst (λ z. MovesAs z (Ok tt) v.state) g (subst (λ z. MovesAs st z v.state) o m))
       where
-        go : (st : Step) → AtEnd h.kinds h.records w.state h.part st → left_of w ≡ after st w.state (walk_at h w.run.back) → MovesAs st (Ok tt) v.state
-            → (left_of w ≡ walk_at h w.run.back v.state) × (turns_left h w.run.back v.state < turns_of w) × (v.state.taken ≡ w.state.taken)
+        go : (st : Step) → AtEnd h.kinds h.records w.state h.part st → left_of w ≡ after st w.state (walk_at h w.run.back) → MovesAs st (Ok tt) v.state → MovesNext w u
         go (moves n) d l m =
             let t : n.taken ≡ w.state.taken = omega (arith, d.0.takes) in
-            (l ∙ ap (walk_at h w.run.back) (sym m.1), rw m.1 (end_less h w.index w.state past_items w.run.back refl n t d.2 d.1), ap (λ z. z.taken) m.1 ∙ t)
+            let k : u.state ≡ n = q ∙ m.1 in
+            record {
+              left = l ∙ sym (left_is u same_u i ∙ ap (walk_at h w.run.back) k);
+              same = same_u;
+              taken = ap (λ z. z.taken) k ∙ t;
+              fewer = rw (turns_are u same_u i, k) (end_less h w.index w.state past_items w.run.back refl n t d.2 d.1);
+            }
         go (covers p n) d l m = absurd m
         go (refused why) d l m = let z : ⊥ = cc in absurd z
         go ends d l m = absurd m
@@ -275,23 +287,6 @@ same_as w v e f g = record { run = e; elements = f; records = g }
 pub same_on : {u w v : Walk} → SameSheet u w → SameSheet w v → SameSheet u v
 same_on a b = record { run = b.run ∙ a.run; elements = b.elements ∙ a.elements; records = b.records ∙ a.records }
 
--- what covers columns next, after an earlier part of the walk
-pub next_from : {u w : Walk} (v : Walk) (r : Result (Option Cover) Refusal) → SameSheet u w → left_of u ≡ left_of w → w.state.taken ≡ u.state.taken → NextIs w r v → NextIs u r v
-next_from {u = u} {w = w} v (Ok (Some c)) a e t m =
-    record {
-      placement = m.placement;
-      left = e ∙ m.left;
-      same = same_on a m.same;
-      is = subst (λ k. CoverIs k.0 k.1 c m.placement) (sheet_and_chars a) m.is;
-      met = m.met ∙ t;
-      taken = m.taken ∙ ap (λ k. c.place + fields_of (met_of k.chars.now c.word)) a.run;
-    }
-  where
-    sheet_and_chars : SameSheet u w → ◌≡◌ {A = Sheet × List ℕ} (sheet_of w, w.run.chars.now) (sheet_of u, u.run.chars.now)
-    sheet_and_chars s = rw (sheets u w s, s.run)
-next_from v (Ok None) a e t m = e ∙ m
-next_from v (Err why) a e t m = e ∙ m
-
 -- ---- the word of a field
 
 -- a word that is none of the others
@@ -306,13 +301,13 @@ field_word t (word.T n) a b c d = absurd (b n refl)
 field_word t word.Slash a b c d = absurd (c refl)
 field_word t (word.Literal k n) a b c d = absurd (d k n refl)
 
-module _ (w : Walk) (d : Word) where
+module _ (w : Walk) where
   -- the step of a literal's word, for as many columns as it says
-  pub literal_at : w.index < length w.run.words.now → {a n m : ℕ} → get_or w.run.words.now w.index d ≡ word.Literal a n → m ≡ n
+  pub literal_at : (d : Packed) → w.index < length w.run.words.now → {a n m : ℕ} → word_in (get_or w.run.words.now w.index d) ≡ word.Literal a n → m ≡ n
       → cover_step (sheet_of w).records w.state (literal (take n (drop a w.run.chars.now))) m w.state.taken ≡ step (sheet_of w).kinds (sheet_of w).records (Met.literal (take n (drop a w.run.chars.now))) w.state
-  literal_at i {a} {n} {m} e g = literal_step (sheet_of w).kinds (sheet_of w).records w.state (take n (drop a w.run.chars.now)) (g ∙ literal_length w d i e)
+  literal_at d i {a} {n} {m} e g = literal_step (sheet_of w).kinds (sheet_of w).records w.state (take n (drop a w.run.chars.now)) (g ∙ literal_length w d i e)
 
   -- the step of a field's word
-  pub field_at : {f : Field ℕ} → met_of w.run.chars.now (get_or w.run.words.now w.index d) ≡ Met.field f
-      → field_step (sheet_of w).records w.state f (drop w.state.taken (sheet_of w).kinds) ≡ step (sheet_of w).kinds (sheet_of w).records (met_of w.run.chars.now (get_or w.run.words.now w.index d)) w.state
-  field_at {f} e = field_is_step (sheet_of w).kinds (sheet_of w).records w.state f ∙ ap (λ x. step (sheet_of w).kinds (sheet_of w).records x w.state) (sym e)
+  pub field_at : (x : Word) {f : Field ℕ} → met_of w.run.chars.now x ≡ Met.field f
+      → field_step (sheet_of w).records w.state f (drop w.state.taken (sheet_of w).kinds) ≡ step (sheet_of w).kinds (sheet_of w).records (met_of w.run.chars.now x) w.state
+  field_at x {f} e = field_is_step (sheet_of w).kinds (sheet_of w).records w.state f ∙ ap (λ y. step (sheet_of w).kinds (sheet_of w).records y w.state) (sym e)

@@ -12,6 +12,10 @@ pub mod WidthLaws
 pub mod RecordLaws
 pub mod Turns
 pub mod Starts
+pub mod Keeping
 pub mod Following
 pub mod Puts
+pub mod Parts
+pub mod OneByOne
+pub mod FieldRuns
 pub mod Promises

@@ -12,7 +12,8 @@ use Rattle.sheet_walk.specs.Given.{fields_of}
 use Rattle.sheet_walk.specs.Steps.{Step, moves, covers, refused, ends, step, end_step}
 use Rattle.sheet_walk.specs.Walk.{Sheet, Trace, put, after, pass, returns, at_end}
 use Rattle.sheet_walk.specs.Promises.{EndIs, ReturnTakes}
-use Rattle.sheet_walk.proofs.StepLaws.{fields_in, Does, step_does, AtEnd, end_does}
+use Rattle.sheet_walk.specs.Followed.{fields_in}
+use Rattle.sheet_walk.proofs.StepLaws.{Does, step_does, AtEnd, end_does}
 
 module _ (h : Sheet) where
   -- two ways on that agree wherever the walk may come to

@@ -7,7 +7,9 @@ use Rattle.std.proofs.lemmas.List.{take_rest}
 use lib.ListN.{drop_of_length-le}
 use Rattle.std.specs.Prelude.{◌||◌, Option, None, Some, unwrap_or}
 use Rattle.std.specs.List.{list_any, drop-map}
-use Rattle.format_words.specs.Words.{met_of}
+use Rattle.format_words.specs.Words.{met_of, met_in}
+use Rattle.format_words.specs.Packing.{word_in}
+use Rattle.format_words.specs.declared.packed.Packed.{Packed}
 use Rattle.format_words.specs.declared.Word.{Word}
 use Rattle.format_words.specs.declared.Word.TheVariants as word
 use Rattle.sheet_walk.specs.Steps.{is_field, has_field}
@@ -24,17 +26,17 @@ field_is t (word.T n) = refl
 field_is t word.Slash = refl
 field_is t (word.Literal a n) = refl
 
-fields_are : (t : List ℕ) (ws : List Word) → list_any word_is_field ws ≡ has_field (map (met_of t) ws)
+fields_are : (t : List ℕ) (ws : List Packed) → list_any (λ p. word_is_field (word_in p)) ws ≡ has_field (map (met_in t) ws)
 unfolding has_field
 fields_are t [] = refl
-fields_are t (w ∷ ws) = rw (field_is t w) (ap (λ b. word_is_field w || b) (fields_are t ws))
+fields_are t (w ∷ ws) = rw (field_is t (word_in w)) (ap (λ b. word_is_field (word_in w) || b) (fields_are t ws))
 
 -- of the words from an index on
-pub part_field : (t : List ℕ) (ws : List Word) (i : ℕ) → list_any word_is_field (drop i ws) ≡ has_field (drop i (map (met_of t) ws))
-part_field t ws i = fields_are t (drop i ws) ∙ ap has_field (sym (drop-map (met_of t) i ws))
+pub part_field : (t : List ℕ) (ws : List Packed) (i : ℕ) → list_any (λ p. word_is_field (word_in p)) (drop i ws) ≡ has_field (drop i (map (met_in t) ws))
+part_field t ws i = fields_are t (drop i ws) ∙ ap has_field (sym (drop-map (met_in t) i ws))
 
 -- the words from an index on, which may lie past the last one, as the code takes them
-pub words_from : (ws : List Word) (i : ℕ) (o : Option (Bor (List Word))) → IsGetRangeResult ws i (length ws) o → (rest : Bor (List Word)) → rest.now ≡ []
+pub words_from : {X : Type 0} (ws : List X) (i : ℕ) (o : Option (Bor (List X))) → IsGetRangeResult ws i (length ws) o → (rest : Bor (List X)) → rest.now ≡ []
     → (unwrap_or o rest).now ≡ drop i ws
 words_from ws i None p rest e = e ∙ sym (drop_of_length-le ws (none p.0))
   where

@@ -16,6 +16,7 @@ use Rattle.list_elements.specs.Elements.{Kind, integer}
 use Rattle.sheet_walk.specs.declared.Refusal.TheVariants as refusal
 use Rattle.sheet_walk.specs.declared.State.{State}
 use Rattle.sheet_walk.specs.Given.{fields_of}
+use Rattle.sheet_walk.specs.Followed.{fields_in}
 use Rattle.sheet_walk.specs.Steps.{Records, What, element, literal, Placement, Step, moves, covers, refused, ends, state, suits, field_width, cover_step, field_step, next_record, step, has_field, end_step}
 use Rattle.sheet_walk.specs.Promises.{ItemRefused, EndRefused, Suited}
 
@@ -25,11 +26,6 @@ by_test P true x y f g = f refl
 by_test P false x y f g = g refl
 
 -- ---- the elements taken
-
--- those of a list of items
-unfoldable pub fields_in : List Met → ℕ
-fields_in [] = 0
-fields_in (x ∷ xs) = fields_of x + fields_in xs
 
 pub has_fields : (xs : List Met) → has_field xs ≡ true → 1 ≤ fields_in xs
 unfolding has_field fields_in

@@ -10,7 +10,7 @@ use Rattle.sheet_walk.specs.Given.{fields_of}
 use Rattle.sheet_walk.specs.Steps.{step, end_step}
 use Rattle.sheet_walk.specs.Walk.{Sheet, Trace, after, pass, at_end}
 use Rattle.sheet_walk.specs.declared.State.{State}
-use Rattle.sheet_walk.proofs.StepLaws.{fields_in}
+use Rattle.sheet_walk.specs.Followed.{fields_in, turns_left}
 use Rattle.sheet_walk.proofs.Returns.{end_is}
 
 -- the walk from the item of an index on
@@ -20,10 +20,6 @@ walk_at h i s = pass h (at_end h) (drop i h.items) s
 -- the item of an index
 abbrev pub item_at : Sheet → ℕ → Met
 item_at h i = get_or h.items i Met.slash
-
--- the most turns still to come: each return takes an element at least
-abbrev pub turns_left : Sheet → ℕ → State → ℕ
-turns_left h i s = (length h.kinds - (s.taken + fields_in (drop i h.items))) * (length h.items + 1) + (length h.items - i)
 
 module _ (h : Sheet) (i : ℕ) (s : State) where
   module _ (inside : i < length h.items) where

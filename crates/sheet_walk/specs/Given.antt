@@ -1,12 +1,15 @@
 -- What a walk goes by, as the code has it. (Nothing here need be believed: no public call's contract speaks of it.)
 -- Assumes nothing.
-use Rattle.std.specs.Prelude.{◌≡◌, Bool, cond, List, [], map, ℕ, ◌/◌, Option, Some, None, Result, Ok, Err, length, drop}
+use Rattle.std.specs.Prelude.{◌≡◌, Bool, cond, List, [], map, ℕ, ◌+◌, ◌/◌, ◌<◌, ◌≤◌, leb, Option, Some, None, Result, Ok, Err, length, take, drop}
+use Rattle.format_items.specs.Items.{Field}
 use Rattle.format_items.specs.Met.{Met}
 use Rattle.format_items.specs.MetRanges.{MetWithin}
-use Rattle.format_words.specs.Words.{met_of, RunWord}
+use Rattle.format_words.specs.Words.{met_of, met_in}
+use Rattle.format_words.specs.Packing.{literal_kind, kind_in, detail_in, columns_in}
+use Rattle.format_words.specs.declared.packed.Packed.{Packed}
 use Rattle.format_words.specs.declared.Word.{Word}
 use Rattle.format_words.specs.declared.run.Run.{Run}
-use Rattle.list_elements.specs.Elements.{Kind, kinds_of}
+use Rattle.list_elements.specs.Elements.{Kind, integer, decimal, logical, text, kinds_of}
 use Rattle.sheet_walk.specs.Steps.{Records, records_in, What, element, literal, suits, field_width, is_field}
 use Rattle.list_elements.specs.declared.Element.{Element}
 use Rattle.sheet_walk.specs.Walk.{Sheet}
@@ -17,7 +20,7 @@ use Rattle.sheet_walk.specs.declared.records.Records as code
 
 -- the items met
 abbrev pub items_of : Run → List Met
-items_of r = map (met_of r.chars.now) r.words.now
+items_of r = map (met_in r.chars.now) r.words.now
 
 -- the columns that an item covers for an element of a kind, where it is a field that the kind suits
 abbrev pub item_width : Met → Kind → Option ℕ
@@ -30,6 +33,13 @@ item_width (Met.literal cs) k = None
 -- by its word. (Here the characters of literals do not matter.)
 abbrev pub suited_width : Word → Kind → Option ℕ
 suited_width w k = item_width (met_of [] w) k
+
+-- the kind of the words of fields that an element's kind suits, A alone aside
+abbrev pub kind_number : Kind → ℕ
+kind_number integer = 0
+kind_number decimal = 1
+kind_number logical = 2
+kind_number (text m) = 3
 
 -- the records of a buffer
 abbrev pub records_of : code.Records → Records
@@ -47,29 +57,36 @@ run_sheet r es rs = record { items = items_of r; part = drop r.back (items_of r)
 abbrev pub given_sheet : Run → List Element → code.Records → Sheet
 given_sheet r es rs = run_sheet r es (records_of rs)
 
--- ---- what the item of a word covers columns with
+-- ---- what covers columns, as the code keeps it: by a word
 
--- what an item covers columns with, where element i is the next one
-abbrev pub what_of : Met → ℕ → What
-what_of (Met.field f) i = element i f
-what_of (Met.X n) i = literal []
-what_of (Met.T n) i = literal []
-what_of Met.slash i = literal []
-what_of (Met.literal cs) i = literal cs
+-- so many places after the point: those of an F
+abbrev pub PlacesAre : ℕ → Field ℕ → Type 0
+PlacesAre d (Field.I w) = Unit
+PlacesAre d (Field.F w e) = d ≡ e
+PlacesAre d (Field.L w) = Unit
+PlacesAre d Field.A = Unit
+PlacesAre d (Field.Aw w) = Unit
 
--- an item covers w columns: a field that the element's kind suits, or a literal of so many characters
-abbrev pub Covering : List Kind → Met → ℕ → ℕ → Type 0
-Covering kinds (Met.field f) i w = Suited kinds i f w
-Covering kinds (Met.X n) i w = ⊥
-Covering kinds (Met.T n) i w = ⊥
-Covering kinds Met.slash i w = ⊥
-Covering kinds (Met.literal cs) i w = w ≡ length cs
+-- what the word k says of the field f, w columns wide: that it is no literal, the columns, and the places of an F
+pub record KeepsField (k : Packed) (w : ℕ) (f : Field ℕ) : Type 0 where
+  pub no_literal : kind_in k < literal_kind
+  pub wide : columns_in k ≡ w
+  pub places : PlacesAre (detail_in k) f
 
--- the item of a word, met where element i of these kinds is the next one, covers w columns
-pub record WordCovers (t : List ℕ) (kinds : List Kind) (word : Word) (i w : ℕ) : Type 0 where
-  pub sound : RunWord (length t) word
-  pub within : MetWithin (met_of t word)
-  pub covers : Covering kinds (met_of t word) i w
+-- it keeps the literal cs, whose characters are among those of t
+pub record KeepsLiteral (t : List ℕ) (k : Packed) (cs : List ℕ) : Type 0 where
+  pub is_literal : literal_kind ≤ kind_in k
+  pub inside : detail_in k + columns_in k ≤ length t
+  pub are : cs ≡ take (columns_in k) (drop (detail_in k) t)
+
+-- it keeps what covers w columns, where element `next` is the next one
+abbrev pub Keeps : List ℕ → List Kind → ℕ → ℕ → Packed → What → Type 0
+Keeps t kinds next w k (element i f) = (i ≡ next) × Suited kinds i f w × MetWithin (Met.field f) × KeepsField k w f
+Keeps t kinds next w k (literal cs) = KeepsLiteral t k cs
+
+-- how many elements that takes
+abbrev pub takes : Packed → ℕ
+takes k = cond (leb literal_kind (kind_in k)) 0 1
 
 -- the elements that an item takes where the walk goes on: 1 for a field
 abbrev pub fields_of : Met → ℕ

@@ -1,13 +1,14 @@
 // The walk over the items met, for writing and reading: what covers columns, in order, and how it ends.
 #![tactic(auto)]
 
+pub mod placing;
 pub mod records;
 pub mod refusals;
 pub mod walk;
 pub mod width;
 
 use format_items::FormatRefusal;
-use format_words::Word;
+use format_words::packed::Packed;
 
 // A sheet refused: rows of the rules' 'Checks by place'.
 #[derive(Clone, Copy, PartialEq, Eq, Debug)]
@@ -36,14 +37,20 @@ pub struct State {
     pub taken: usize,
 }
 
-// Columns covered: where the first one stands in the records, and how many they are; the item that covers them, and how many
-// elements were taken before it.
+// Columns covered: where the first one stands in the records, and the word of the item. (A alone is kept as Aw, with the width of its
+// text; so the word has the number of columns.)
 #[derive(Clone, Copy, PartialEq, Eq, Debug)]
 pub struct Cover {
     pub at: usize,
-    pub width: usize,
-    pub word: Word,
-    pub place: usize,
+    pub word: Packed,
+}
+
+impl Cover {
+    // What an array of them holds before it is filled.
+    pub const ZERO: Cover = Cover {
+        at: 0,
+        word: Packed::ZERO,
+    };
 }
 
 // What an accepted writing or reading counts: the records reached and the starred fields, 0 in reading.

@@ -1,14 +1,16 @@
 // The walk over a run of words.
-ghost use Rattle.std.specs.Prelude.{◌≡◌, List, ℕ, ◌+◌, ◌*◌, ◌^◌, ◌<◌, ◌≤◌, length, drop};
+ghost use Rattle.std.specs.Prelude.{◌≡◌, List, ℕ, ◌+◌, ◌*◌, ◌^◌, ◌<◌, ◌≤◌, length, take, drop};
 ghost use Rattle.std.specs.List.{list_any};
-ghost use Rattle.format_words.specs.Words.{met_of};
+ghost use Rattle.format_words.specs.Words.{met_in};
+ghost use Rattle.format_words.specs.Packing.{word_in};
 ghost use Rattle.list_elements.specs.Elements.{kind_of};
 ghost use Rattle.sheet_walk.specs.Steps.{has_field};
-ghost use Rattle.sheet_walk.specs.Given.{items_of, word_is_field, suited_width};
+ghost use Rattle.sheet_walk.specs.Given.{items_of, word_is_field, suited_width, kind_number};
 
 use crate::records::Records;
 use crate::{Cover, Refusal, State};
 use format_words::Word;
+use format_words::packed::Packed;
 use format_words::run::Run;
 use list_elements::{Element, Value};
 
@@ -45,10 +47,10 @@ fn is_field(word: Word) -> bool
 }
 
 // Whether some word is.
-fn has_field(words: &[Word]) -> bool
-    ensures { result ≡ list_any word_is_field words.now }
+fn has_field(words: &[Packed]) -> bool
+    ensures { result ≡ list_any (λ p. word_is_field (word_in p)) words.now }
 {
-    words.iter().any(|&word| is_field(word))
+    words.iter().any(|packed| is_field(packed.word()))
 }
 
 // The columns that a field covers for an element of this value, where its kind suits.
@@ -66,6 +68,27 @@ fn field_width(word: Word, value: Value) -> Option<usize>
     }
 }
 
+// The kind of the words of fields that the value suits, A alone aside.
+#[inline(always)]
+fn suited_kind(value: Value) -> u32
+    ensures { result ≡ kind_number (kind_of value) }
+{
+    match value {
+        Value::Integer(_) => 0,
+        Value::Decimal(_) => 1,
+        Value::Logical(_) => 2,
+        Value::Text(_) => 3,
+    }
+}
+
+// What one turn of the walk does: it moves on, covers columns, or ends.
+#[derive(Clone, Copy, PartialEq, Eq, Debug)]
+pub(crate) enum Turn {
+    Moves,
+    Covers(Cover),
+    Ends,
+}
+
 impl<'a> Walk<'a> {
     ghost use Rattle.format_items.specs.Items.{Field};
     ghost use Rattle.format_items.specs.Met.{Met};
@@ -73,7 +96,7 @@ impl<'a> Walk<'a> {
     ghost use Rattle.sheet_walk.specs.Walk.{walk};
     ghost use Rattle.list_elements.specs.Elements.{kinds_of};
     ghost use Rattle.sheet_walk.specs.Given.{given_sheet, records_of};
-    ghost use Rattle.sheet_walk.specs.Followed.{GoesBy, sheet_of, left_of, SameSheet, MovesAs, CoversAs, AnswersAs, NextIs};
+    ghost use Rattle.sheet_walk.specs.Followed.{GoesBy, sheet_of, left_of, SameSheet, MovesAs, CoversAs, AnswersAs, TurnIs, FieldsAs};
 
     // A slash, and a return: to the next record.
     #[inline(always)]
@@ -126,42 +149,44 @@ impl<'a> Walk<'a> {
         })
     }
 
-    // The item of a word covers so many columns; then so many elements are taken.
+    // So many columns are covered, and then so many elements taken; where the first column stands.
     #[inline(always)]
-    fn cover(&mut self, word: Word, width: usize, taken: usize) -> Result<Cover, Refusal>
+    fn cover(&mut self, width: usize, taken: usize) -> Result<usize, Refusal>
         requires { taken ≤ length self.old.elements.now }
         ensures same { SameSheet self.old self.new }
         ensures index { self.new.index ≡ self.old.index }
-        ensures covers { (what : What) → CoversAs (records_of self.old.records) word self.old.state.taken (cover_step (records_of self.old.records) self.old.state what width taken) result self.new.state }
+        ensures covers { (what : What) → CoversAs (records_of self.old.records) (cover_step (records_of self.old.records) self.old.state what width taken) result self.new.state }
     {
-        let place = self.state.taken;
         let at = self.state.row * self.records.width + (self.state.column - 1);
         self.skip(width)?;
         self.state.taken = taken;
-        Ok(Cover {
-            at,
-            width,
-            word,
-            place,
-        })
+        Ok(at)
     }
 
-    // The item of a field's word; nothing where no element remains.
+    // A field; the walk ends where no element remains.
     #[inline(always)]
-    fn field(&mut self, word: Word) -> Result<Option<Cover>, Refusal>
+    fn field(&mut self, word: Packed) -> Result<Turn, Refusal>
         ensures same { SameSheet self.old self.new }
         ensures index { self.new.index ≡ self.old.index }
-        ensures answers { (t : List ℕ) (f : Field ℕ) → met_of t word ≡ Met.field f → AnswersAs (records_of self.old.records) word self.old.state (field_step (records_of self.old.records) self.old.state f (drop self.old.state.taken (kinds_of self.old.elements.now))) result self.new.state }
+        ensures answers { (t : List ℕ) (f : Field ℕ) → met_in t word ≡ Met.field f → AnswersAs (records_of self.old.records) f self.old.state (field_step (records_of self.old.records) self.old.state f (drop self.old.state.taken (kinds_of self.old.elements.now))) result self.new.state }
     {
         let place = self.state.taken;
         let Some(element) = self.elements.get(place) else {
-            return Ok(None);
+            return Ok(Turn::Ends);
         };
-        let Some(width) = field_width(word, element.value) else {
+        let item = word.word();
+        let Some(width) = field_width(item, element.value) else {
             return Err(Refusal::Kind { place });
         };
-        let cover = self.cover(word, width, place + 1)?;
-        Ok(Some(cover))
+        let at = self.cover(width, place + 1)?;
+        let Word::A = item else {
+            return Ok(Turn::Covers(Cover { at, word }));
+        };
+        // A cast: the columns are at most those of a record, and `try_from` would add an arm that is never taken.
+        let word = Packed::of(Word::Aw {
+            width: width as u16,
+        });
+        Ok(Turn::Covers(Cover { at, word }))
     }
 
     // The walk at its start.
@@ -186,45 +211,93 @@ impl<'a> Walk<'a> {
         }
     }
 
+    // How many elements were taken.
+    #[inline(always)]
+    pub fn taken(&self) -> usize
+        ensures { result ≡ self.now.state.taken }
+    {
+        self.state.taken
+    }
+
     // How many records were reached.
     #[inline(always)]
-    pub fn reached(&self) -> usize
+    pub(crate) fn reached(&self) -> usize
         ensures { result ≡ self.now.state.row + 1 }
     {
         self.state.row + 1
     }
 
-    // The next item that covers columns; nothing where the walk ends before. (No `Iterator`: that has one end, and a walk ends or
-    // is refused; and no `for` over the words, since a return goes back among them.)
+    // The end of the format: the walk ends, or returns.
     #[inline(always)]
-    pub fn next(&mut self) -> Result<Option<Cover>, Refusal>
-        ensures { NextIs self.old result self.new }
+    fn end(&mut self) -> Result<Turn, Refusal>
+        requires { length self.old.run.words.now ≤ self.old.index }
+        ensures { TurnIs self.old result self.new }
     {
-        loop {
-            if self.run.words.len() <= self.index {
-                let place = self.state.taken;
-                if self.elements.len() <= place {
-                    return Ok(None);
-                }
-                if !self.returns {
-                    return Err(Refusal::NoField { place });
-                }
-                self.next_record()?;
-                self.index = self.run.back;
-            } else {
-                let word = self.run.words[self.index];
-                self.index += 1;
-                match word {
-                    Word::X { count } => self.skip(usize::from(count))?,
-                    Word::T { column } => self.tab(usize::from(column))?,
-                    Word::Slash => self.next_record()?,
-                    Word::Literal { start: _, len } => {
-                        let cover = self.cover(word, usize::from(len), self.state.taken)?;
-                        return Ok(Some(cover));
-                    }
-                    _ => return self.field(word),
-                }
-            }
+        let place = self.state.taken;
+        if self.elements.len() <= place {
+            return Ok(Turn::Ends);
         }
+        if !self.returns {
+            return Err(Refusal::NoField { place });
+        }
+        self.next_record()?;
+        self.index = self.run.back;
+        Ok(Turn::Moves)
+    }
+
+    // One turn: an item, or the end of the format.
+    #[inline(always)]
+    pub(crate) fn turn(&mut self) -> Result<Turn, Refusal>
+        ensures { TurnIs self.old result self.new }
+    {
+        if self.run.words.len() <= self.index {
+            return self.end();
+        }
+        let word = self.run.words[self.index];
+        self.index += 1;
+        match word.word() {
+            Word::X { count } => self.skip(usize::from(count))?,
+            Word::T { column } => self.tab(usize::from(column))?,
+            Word::Slash => self.next_record()?,
+            Word::Literal { start: _, len } => {
+                let at = self.cover(usize::from(len), self.state.taken)?;
+                return Ok(Turn::Covers(Cover { at, word }));
+            }
+            _ => return self.field(word),
+        }
+        Ok(Turn::Moves)
+    }
+
+    // The fields that follow each other from here on, each suited by the next element, as far as they stand in the record and the
+    // slice holds them: how many. (The same as so many turns, A alone aside, but with fewer tests: most items of a sheet are such.)
+    #[inline(always)]
+    pub(crate) fn fields(&mut self, covers: &mut [Cover]) -> usize
+        ensures few { result ≤ length covers.new }
+        ensures as_fields { FieldsAs self.old self.new (take result covers.new) }
+    {
+        let words = self.run.words.get(self.index..).unwrap_or(&[]);
+        let elements = &self.elements[self.state.taken..];
+        let most = words.len().min(elements.len()).min(covers.len());
+        let at = self.state.row * self.records.width + (self.state.column - 1);
+        let room = self.records.width + 1 - self.state.column;
+        let mut columns: usize = 0;
+        let mut count: usize = 0;
+        while count < most {
+            let word = words[count];
+            let width = word.columns();
+            if word.kind() != suited_kind(elements[count].value) || room - columns < width {
+                break;
+            }
+            covers[count] = Cover {
+                at: at + columns,
+                word,
+            };
+            columns += width;
+            count += 1;
+        }
+        self.index += count;
+        self.state.column += columns;
+        self.state.taken += count;
+        count
     }
 }

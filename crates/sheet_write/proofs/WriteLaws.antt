@@ -1,7 +1,7 @@
 -- What the inner functions of writing do, from what their callees say.
 -- Assumes nothing.
-use Rattle.std.proofs.Common.{◌≡◌, refl, sym, ap, subst, ◌∙◌, false, List, map, ℕ, ◌*◌, ◌/◌, ◌≤◌, length, replicate, arith}
-use Rattle.std.specs.Prelude.{Result, Ok, Err}
+use Rattle.std.proofs.Common.{◌≡◌, refl, ap, subst, ◌∙◌, false, List, map, ℕ, ◌+◌, ◌*◌, ◌/◌, ◌≤◌, length, replicate, take, arith}
+use Rattle.std.specs.Prelude.{Some, IfSome, Result, Ok, Err}
 use native.Mathlib.Nat.{mul-le-mul_right}
 use Rattle.buffer.specs.Splice.{splice}
 use Rattle.format_items.specs.Items.{Items}
@@ -15,12 +15,13 @@ use Rattle.list_elements.specs.declared.BadElement.{BadElement}
 use Rattle.list_elements.specs.declared.Value.{Value}
 use Rattle.list_elements.specs.declared.listed.Listed.{Listed}
 use Rattle.sheet_walk.specs.Answers.{Answer}
-use Rattle.sheet_walk.specs.Walk.{Sheet, sheet, walk}
+use Rattle.sheet_walk.specs.Walk.{Sheet, sheet, Trace, done, walk}
 use Rattle.sheet_walk.specs.Laid.{laid, blanked, written}
 use Rattle.sheet_walk.specs.Given.{run_sheet, given_sheet, records_of}
 use Rattle.sheet_walk.specs.declared.Refusal.{Refusal}
 use Rattle.sheet_walk.specs.declared.Refusal.TheVariants as refusal
-use Rattle.sheet_walk.specs.declared.records.Records as code
+use Rattle.sheet_walk.specs.declared.records.Records as records
+use Rattle.sheet_walk.specs.declared.Cover.{Cover}
 use Rattle.sheet_walk.proofs.Covering.{covers_reached}
 use Rattle.sheet_walk.proofs.Puts.{run_walkable}
 use Rattle.sheet_walk.specs.Steps.{Records, width_right, records_in}
@@ -31,7 +32,9 @@ use Rattle.sheet_rows.proofs.RowLaws as row
 use Rattle.list_elements.proofs.ContentLaws.{kinds_are}
 use Rattle.sheet_rows.proofs.Loads.{run_sheet_is}
 use Rattle.write_passes.specs.Placed.{characters, starred_in, Judged, accepted, refused, judged}
-use Rattle.write_passes.specs.Passes.{ending_of}
+use Rattle.write_passes.specs.declared.Sheet as code
+use Rattle.write_passes.specs.declared.checking.Checked.{Checked}
+use Rattle.write_passes.specs.Passes.{values_of, walk_of, BeginsIn, SomeSmallBegins, WholeIn, CheckedAs}
 use Rattle.write_passes.proofs.PlacedLaws.{judged_ends}
 use Rattle.sheet_write.specs.Writing.{walked, writing_of}
 use Rattle.sheet_write.specs.Parts.{Wrote, WroteText}
@@ -39,32 +42,47 @@ use Rattle.list_elements.specs.Checked.{values_in}
 
 -- ---- how the walk ends, from the checking pass's answer
 
-ending_accepted : (j : Judged) {n : ℕ} → ending_of j ≡ Ok n → j ≡ accepted n
-ending_accepted (accepted m) {n} e = let z : m ≡ n = cc in ap accepted z
-ending_accepted (refused why) e = let z : ⊥ = cc in absurd z
+module _ (s : code.Sheet) (covers : List Cover) (j : Judged) {r : Result Checked Refusal} (is : CheckedAs s covers j r) where
+  pub check_accepted : {c : Checked} → r ≡ Ok c → (j ≡ accepted c.records) × IfSome c.whole (WholeIn s covers c.records)
+  check_accepted e = subst (CheckedAs s covers j) e is
 
-module _ (l : Listed) (r : Run) (rs : code.Records) where
-  abbrev h : Sheet
-  h = given_sheet r l.elements.now rs
+  pub check_whole : {c : Checked} {n : ℕ} → r ≡ Ok c → c.whole ≡ Some n → WholeIn s covers c.records n
+  check_whole {c} e w = subst (λ o. IfSome o (WholeIn s covers c.records)) w (check_accepted e).1
 
-  module _ {e : Result ℕ Refusal} (is : e ≡ ending_of (judged (values_in l) (walk h))) where
-    pub accepts : {n : ℕ} → e ≡ Ok n → judged (values_in l) (walk h) ≡ accepted n
-    accepts g = ending_accepted (judged (values_in l) (walk h)) (sym is ∙ g)
+  pub check_refused : {why : Refusal} → r ≡ Err why → j ≡ refused why
+  check_refused e = subst (CheckedAs s covers j) e is
 
-    -- the records reached lie in the buffer
-    pub reached : {n B : ℕ} → e ≡ Ok n → rs.count * rs.width ≤ B → n * rs.width ≤ B
-    reached {n} {B} g fits =
-        let m = (covers_reached h (run_walkable r l.elements.now rs) n (judged_ends (values_in l) (walk h) n (accepts g))).0 in
-        omega (arith, mul-le-mul_right rs.width m)
+module _ (s : code.Sheet) {n : ℕ} (a : judged (values_of s) (walk_of s) ≡ accepted n) where
+  -- the records reached lie in the buffer
+  pub reached : {B : ℕ} → s.records.count * s.records.width ≤ B → n * s.records.width ≤ B
+  reached {B} fits =
+      let m = (covers_reached (given_sheet s.run s.list.elements.now s.records) (run_walkable s.run s.list.elements.now s.records) n (judged_ends (values_of s) (walk_of s) n a)).0 in
+      omega (arith, mul-le-mul_right s.records.width m)
 
-    pub wrote_accepted : {n starred : ℕ} {before blank after : List ℕ} → e ≡ Ok n → blank ≡ splice before 0 (replicate (n * rs.width) 32)
-        → starred ≡ starred_in (values_in l) (walk h) → after ≡ laid rs.width (characters l.area.now (values_in l)) (walk h) blank
-        → Wrote rs.width l.area.now (values_in l) before (walked (values_in l) (walk h)) (Ok (record { records = n; starred = starred })) after
-    unfolding written blanked
-    wrote_accepted g b s a = rw (accepts g) (record { answers = rw s; bytes = rw (← b) a })
+  pub wrote_accepted : {starred : ℕ} {before blank after : List ℕ} → blank ≡ splice before 0 (replicate (n * s.records.width) 32)
+      → starred ≡ starred_in (values_of s) (walk_of s) → after ≡ laid s.records.width (characters s.list.area.now (values_of s)) (walk_of s) blank
+      → Wrote s.records.width s.list.area.now (values_of s) before (walked (values_of s) (walk_of s)) (Ok (record { records = n; starred = starred })) after
+  unfolding written blanked
+  wrote_accepted b t e = rw a (record { answers = rw t; bytes = rw (← b) e })
+
+  -- the whole walk was placed at once, and laid
+  module _ {covers : List Cover} {count : ℕ} (w : WholeIn s covers n count) where
+    pub whole_begins : SomeSmallBegins s 0 (take count covers)
+    whole_begins = record { whole = walk_of s; taken = w.taken; left = done n; begins = w.begins; n = n; accepts = a }
+
+    pub whole_stars : {starred : ℕ} → ((taken : ℕ) (whole left : Trace) → BeginsIn s 0 (take count covers) whole taken left → starred + starred_in (values_of s) left ≡ starred_in (values_of s) whole)
+        → starred ≡ starred_in (values_of s) (walk_of s)
+    unfolding starred_in
+    whole_stars f = let k = f w.taken (walk_of s) (done n) w.begins in omega arith
+
+    pub whole_bytes : (blank : List ℕ) {after : List ℕ} → ((taken : ℕ) (whole left : Trace) → BeginsIn s 0 (take count covers) whole taken left
+        → laid s.records.width (characters s.list.area.now (values_of s)) left after ≡ laid s.records.width (characters s.list.area.now (values_of s)) whole blank)
+        → after ≡ laid s.records.width (characters s.list.area.now (values_of s)) (walk_of s) blank
+    unfolding laid
+    whole_bytes blank f = f w.taken (walk_of s) (done n) w.begins
 
 -- into the records of a buffer, under the sheet of the format
-pub wrote_under : (l : Listed) (r : Run) (rs : code.Records) (R B : ℕ) → records_of rs ≡ records_in R B → {format : List ℕ} (k : RunHeld format r) {before : List ℕ} {a : Answer} {after : List ℕ}
+pub wrote_under : (l : Listed) (r : Run) (rs : records.Records) (R B : ℕ) → records_of rs ≡ records_in R B → {format : List ℕ} (k : RunHeld format r) {before : List ℕ} {a : Answer} {after : List ℕ}
     → Wrote rs.width l.area.now (values_in l) before (walked (values_in l) (walk (given_sheet r l.elements.now rs))) a after
     → Wrote R l.area.now (values_in l) before (walked (values_in l) (walk (sheet k.items (map kind_of (values_in l)) (records_in R B)))) a after
 wrote_under l r rs R B e k {before} {a} {after} w =

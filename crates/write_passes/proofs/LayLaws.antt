@@ -1,29 +1,32 @@
--- The laying pass: what holds at each turn.
+-- What is laid of a part of the walk.
 -- Assumes nothing.
-use Rattle.std.proofs.Common.{◌≡◌, refl, sym, ap, ◌∙◌, Bool, true, false, cond, List, ℕ, suc, ◌+◌, ◌≤◌, length, arith}
+use Rattle.std.proofs.Common.{◌≡◌, refl, sym, ap, subst, ◌∙◌, Bool, true, false, cond, List, ℕ, suc, ◌+◌, ◌<◌, ◌≤◌, length, take, drop, arith}
+use Rattle.std.proofs.lemmas.List.{length-map}
+use mir.Val.{bool_byte}
 use Rattle.buffer.specs.Splice.{splice}
-use Rattle.format_items.specs.Met.{Met}
+use Rattle.list_elements.specs.Elements.{kinds_of}
 use Rattle.list_elements.specs.declared.Value.{Value}
-use Rattle.list_elements.specs.declared.listed.Listed.{Listed}
 use Rattle.sheet_walk.specs.Steps.{What, element, literal, Placement}
 use Rattle.sheet_walk.specs.Walk.{Sheet, Trace, put, done, stopped, walk}
 use Rattle.sheet_walk.specs.Laid.{offset_of, laid}
 use Rattle.sheet_walk.specs.Promises.{place_of, elements_put}
-use Rattle.format_words.specs.Words.{met_of}
-use Rattle.format_words.specs.declared.run.Run.{Run}
-use Rattle.sheet_walk.specs.Given.{what_of, given_sheet}
-use Rattle.sheet_walk.specs.Followed.{GoesBy, left_of, CoverIs, CoversNext}
-use Rattle.sheet_walk.specs.declared.records.Records.{Records}
-use Rattle.sheet_walk.specs.declared.Refusal.{Refusal}
+use lib.Dec.{leb}
+use Rattle.format_words.specs.Packing.{literal_kind, kind_in, detail_in, columns_in}
+use Rattle.sheet_walk.specs.Given.{given_sheet}
 use Rattle.sheet_walk.specs.declared.Cover.{Cover}
-use Rattle.sheet_walk.specs.declared.walk.Walk.{Walk}
-use Rattle.sheet_walk.proofs.Puts.{cover_in}
 use Rattle.sheet_walk.proofs.Covering.{puts_each, length_numbers}
-use Rattle.write_passes.specs.Placed.{field_starred, value_at, characters_of, characters, starred_of, starred_in, accepted, judged}
-use Rattle.write_passes.specs.Passes.{what_too_large}
-use Rattle.write_passes.proofs.PlacedLaws.{judged_ends}
-use Rattle.write_passes.proofs.CheckLaws.{put_large, put_small}
-use Rattle.list_elements.specs.Checked.{values_in}
+use Rattle.sheet_walk.specs.declared.walk.Walk.{Walk}
+use Rattle.sheet_walk.specs.declared.placing.Placed.{Placed}
+use Rattle.sheet_walk.specs.declared.placing.Stop.{Stop}
+use Rattle.sheet_walk.specs.declared.placing.Stop.TheVariants as stop
+use Rattle.sheet_walk.specs.Followed.{GoesBy, left_of, Begins, PlacedAs}
+use Rattle.sheet_walk.proofs.Parts.{First, PlacedIn, placed_in, stops_ends, stops_refused, stops_full}
+use Rattle.sheet_walk.proofs.OneByOne.{cover_at, begins_at, begins_end, FieldAt, as_field, as_literal, takes_one, takes_none}
+use Rattle.write_passes.specs.declared.Sheet as code
+use Rattle.write_passes.specs.Placed.{field_characters, field_starred, field_too_large, value_at, characters_of, characters, starred_of, starred_in, accepted, judged}
+use Rattle.write_passes.specs.Passes.{values_of, walk_of, BeginsIn, SomeSmallBegins}
+use Rattle.write_passes.proofs.PlacedLaws.{judged_ends, judged_rest, not_refused}
+use Rattle.write_passes.proofs.CheckLaws.{element_value, value_is, judged_field}
 
 -- ---- as many fields are starred as there are elements, at most
 
@@ -46,81 +49,176 @@ few_starred h vs n a =
     let e : length (elements_put (walk h)) ≡ length h.kinds = ap length (puts_each h n (judged_ends vs (walk h) n a)) ∙ length_numbers 0 (length h.kinds) in
     omega (arith, starred_elements vs (walk h))
 
--- ---- the invariant
-
--- what is left of the walk is accepted; laid over the buffer as it is, and added to the starred fields so far, it gives what
--- the whole gives
-pub record Laying (l : Listed) (rs : Records) (whole : Trace) (first : List ℕ) (left : Trace) (buffer : List ℕ) (starred : ℕ) : Type 0 where
-  pub n : ℕ
-  pub accepts : judged (values_in l) left ≡ accepted n
-  pub bytes : laid rs.width (characters l.area.now (values_in l)) left buffer ≡ laid rs.width (characters l.area.now (values_in l)) whole first
-  pub stars : starred + starred_in (values_in l) left ≡ starred_in (values_in l) whole
+-- a truth as a number, as the code counts it
+pub counted : (b : Bool) → (bool_byte b ≡ cond b 1 0) × (bool_byte b ≤ 1)
+counted true = (refl, omega arith)
+counted false = (refl, omega arith)
 
 -- ---- one placement
 
-module _ (R : ℕ) (area : List ℕ) (vs : List Value) (p : Placement) (rest : Trace) (x : Met) (i : ℕ) (e : p.what ≡ what_of x i) {w : ℕ} (wide : p.width ≡ w) where
+module _ (R : ℕ) (area : List ℕ) (vs : List Value) (p : Placement) (rest : Trace) (what : What) (e : p.what ≡ what) {w : ℕ} (wide : w ≡ p.width) where
   -- laying goes on after a placement
-  pub laid_more : (buffer : List ℕ) {out : List ℕ} {at : ℕ} → offset_of R p ≡ at → out ≡ splice buffer at (characters_of area vs w (what_of x i))
+  laid_more : (buffer : List ℕ) {out : List ℕ} {at : ℕ} → at ≡ offset_of R p → out ≡ splice buffer at (characters_of area vs w what)
       → laid R (characters area vs) (put p rest) buffer ≡ laid R (characters area vs) rest out
   unfolding laid
-  laid_more buffer o g = rw (e, wide, o, ← g)
+  laid_more buffer o g = rw (e, ← wide, ← o, ← g) refl
 
   -- and so does counting
-  pub stars_more : {b : Bool} → b ≡ starred_of vs w (what_of x i) → starred_in vs (put p rest) ≡ cond b 1 0 + starred_in vs rest
+  stars_more : {b : Bool} → b ≡ starred_of vs w what → starred_in vs (put p rest) ≡ cond b 1 0 + starred_in vs rest
   unfolding starred_in
-  stars_more g = rw (e, wide, ← g)
+  stars_more g = rw (e, ← wide, ← g) refl
 
-  -- its value is not too large, and the rest is accepted
-  pub put_accepted : {n : ℕ} → judged vs (put p rest) ≡ accepted n → (what_too_large vs (what_of x i) ≡ false) × (judged vs rest ≡ accepted n)
-  put_accepted {n} a = go (what_too_large vs (what_of x i)) refl
-    where
-      go : (b : Bool) → what_too_large vs (what_of x i) ≡ b → (what_too_large vs (what_of x i) ≡ false) × (judged vs rest ≡ accepted n)
-      go true g = let f = sym (put_large vs p rest x i e g) ∙ a in let z : ◌≡◌ {A = ℕ} 0 1 = cc in absurd (omega arith)
-      go false g = (g, sym (put_small vs p rest x i e g) ∙ a)
+-- ---- the fold
 
--- ---- one turn
+-- after k columns, where `taken` elements are taken and so many fields were starred: what is left of the part, laid over the
+-- buffer as it is, gives what the whole part gives over the buffer as it was
+pub record Laying (s : code.Sheet) (covers : List Cover) (was : List ℕ) (k taken starred : ℕ) (buffer : List ℕ) (whole : Trace) (j : ℕ) (left : Trace) : Type 0 where
+  pub now : Trace
+  pub begins : BeginsIn s taken (drop k covers) now j left
+  pub bytes : laid s.records.width (characters s.list.area.now (values_of s)) now buffer ≡ laid s.records.width (characters s.list.area.now (values_of s)) whole was
+  pub stars : starred + starred_in (values_of s) now ≡ starred_in (values_of s) whole
+  pub accepts : {n : ℕ} → judged (values_of s) whole ≡ accepted n → judged (values_of s) now ≡ accepted n
 
-module _ {l : Listed} {rs : Records} {whole : Trace} {first : List ℕ} {w : Walk} {r : Run} (g : GoesBy w r l.elements.now rs) {buffer : List ℕ} {starred : ℕ} (y : Laying l rs whole first (left_of w) buffer starred) where
-  module _ {v : Walk} {c : Cover} (m : CoversNext w v c) where
-    abbrev x : Met
-    x = met_of r.chars.now c.word
+module _ (s : code.Sheet) (covers : List Cover) {was : List ℕ} {k taken starred j : ℕ} {buffer : List ℕ} {whole left : Trace} (l : k < length covers)
+    (g : Laying s covers was k taken starred buffer whole j left) where
+  abbrev pub at : First (given_sheet s.run s.list.elements.now s.records) s.run.chars.now taken (cover_at covers k) (drop (k + 1) covers) g.now j left
+  at = begins_at covers k g.begins l
 
-    is : CoverIs (given_sheet r l.elements.now rs) r.chars.now c m.placement
-    is = cover_in g m
+  abbrev pub c : Cover
+  c = cover_at covers k
 
-    left_put : judged (values_in l) (put m.placement (left_of v)) ≡ accepted y.n
-    left_put = ap (judged (values_in l)) (sym m.left) ∙ y.accepts
+  rest_accepts : {n : ℕ} → judged (values_of s) whole ≡ accepted n → judged (values_of s) at.after ≡ accepted n
+  unfolding judged
+  rest_accepts {n} a = judged_rest (values_of s) at.placement.what (judged (values_of s) at.after) n (ap (judged (values_of s)) (sym at.is_put) ∙ g.accepts a)
 
-    not_large : (what_too_large (values_in l) (what_of x c.place) ≡ false) × (judged (values_in l) (left_of v) ≡ accepted y.n)
-    not_large = put_accepted rs.width l.area.now (values_in l) m.placement (left_of v) x c.place is.what refl left_put
+  pub laying_field : leb literal_kind (kind_in c.word) ≡ false → FieldAt (kinds_of s.list.elements.now) taken at.placement.width c.word at.placement.what
+  laying_field e = as_field s.run.chars.now (kinds_of s.list.elements.now) taken at.placement.width c.word at.placement.what e at.is.what
 
-    pub lay_small : what_too_large (values_in l) (what_of x c.place) ≡ false
-    lay_small = not_large.0
+  -- the value of a field is not too large
+  pub field_small : (e : leb literal_kind (kind_in c.word) ≡ false) {n : ℕ} → judged (values_of s) whole ≡ accepted n → field_too_large (laying_field e).f (element_value s taken) ≡ false
+  field_small e {n} a =
+      let f = laying_field e in
+      ap (field_too_large f.f) (sym (value_is s f))
+      ∙ (not_refused _ _ _ n (sym (judged_field s at.placement at.after f.is) ∙ ap (judged (values_of s)) (sym at.is_put) ∙ g.accepts a)).0
 
-    -- what is laid and counted after it
-    pub lay_next : {out : List ℕ} {b : Bool} {n : ℕ} → out ≡ splice buffer c.at (characters_of l.area.now (values_in l) c.width (what_of x c.place))
-        → b ≡ starred_of (values_in l) c.width (what_of x c.place) → n ≡ cond b 1 0 + starred → Laying l rs whole first (left_of v) out n
-    lay_next {out} {b} {n} o s e =
-        record {
-          n = y.n;
-          accepts = not_large.1;
-          bytes =
-              sym (laid_more rs.width l.area.now (values_in l) m.placement (left_of v) x c.place is.what (sym is.width) buffer (sym is.at) o)
-              ∙ ap (λ t. laid rs.width (characters l.area.now (values_in l)) t buffer) (sym m.left)
-              ∙ y.bytes;
-          stars =
-              let f = ap (starred_in (values_in l)) m.left ∙ stars_more rs.width l.area.now (values_in l) m.placement (left_of v) x c.place is.what (sym is.width) s in
-              let k = y.stars in
-              omega arith;
-        }
+  -- its characters are laid, and its stars counted
+  pub field_laid : (e : leb literal_kind (kind_in c.word) ≡ false) {out : List ℕ} {b : Bool} {n : ℕ} → out ≡ splice buffer c.at (field_characters s.list.area.now (laying_field e).f (columns_in c.word) (element_value s taken))
+      → b ≡ field_starred (laying_field e).f (columns_in c.word) (element_value s taken) → n ≡ starred + cond b 1 0 → Laying s covers was (k + 1) (taken + 1) n out whole j left
+  field_laid e {out} {b} {n} o q m =
+      let f = laying_field e in
+      let what = element taken f.f in
+      record {
+        now = at.after;
+        begins = subst (λ (i : ℕ). BeginsIn s (taken + i) (drop (k + 1) covers) at.after j left) (takes_one c.word e) at.rest;
+        bytes =
+            let v = o ∙ ap (λ v. splice buffer c.at (field_characters s.list.area.now f.f (columns_in c.word) v)) (sym (value_is s f)) in
+            sym (laid_more s.records.width s.list.area.now (values_of s) at.placement at.after what f.is at.is.width buffer at.is.at v)
+            ∙ ap (λ t. laid s.records.width (characters s.list.area.now (values_of s)) t buffer) (sym at.is_put)
+            ∙ g.bytes;
+        stars =
+            let v = q ∙ ap (field_starred f.f (columns_in c.word)) (sym (value_is s f)) in
+            let h = stars_more s.records.width s.list.area.now (values_of s) at.placement at.after what f.is at.is.width v in
+            let i = ap (starred_in (values_of s)) at.is_put in
+            omega (arith, m, h, i, g.stars);
+        accepts = rest_accepts;
+      }
 
-  -- where nothing is left
-  pub lay_done : {n : ℕ} → left_of w ≡ done n → (starred ≡ starred_in (values_in l) whole) × (buffer ≡ laid rs.width (characters l.area.now (values_in l)) whole first)
-  unfolding laid starred_in
-  lay_done e =
-      let s = y.stars in let b = y.bytes in (let k = ap (starred_in (values_in l)) e in omega arith, sym (ap (λ t. laid rs.width (characters l.area.now (values_in l)) t buffer) e) ∙ b)
+  pub literal_inside : leb literal_kind (kind_in c.word) ≡ true → detail_in c.word + columns_in c.word ≤ length s.run.chars.now
+  literal_inside e = (as_literal s.run.chars.now (kinds_of s.list.elements.now) taken at.placement.width c.word at.placement.what e at.is.what).inside
 
-  pub lay_stopped : {why : Refusal} → left_of w ≡ stopped why → (starred ≡ starred_in (values_in l) whole) × (buffer ≡ laid rs.width (characters l.area.now (values_in l)) whole first)
-  unfolding laid starred_in
-  lay_stopped e =
-      let s = y.stars in let b = y.bytes in (let k = ap (starred_in (values_in l)) e in omega arith, sym (ap (λ t. laid rs.width (characters l.area.now (values_in l)) t buffer) e) ∙ b)
+  pub literal_laid : leb literal_kind (kind_in c.word) ≡ true → {out : List ℕ} → out ≡ splice buffer c.at (take (columns_in c.word) (drop (detail_in c.word) s.run.chars.now)) → Laying s covers was (k + 1) taken starred out whole j left
+  literal_laid e {out} o =
+      let f = as_literal s.run.chars.now (kinds_of s.list.elements.now) taken at.placement.width c.word at.placement.what e at.is.what in
+      let what = literal (take (columns_in c.word) (drop (detail_in c.word) s.run.chars.now)) in
+      record {
+        now = at.after;
+        begins = subst (λ (n : ℕ). BeginsIn s n (drop (k + 1) covers) at.after j left) (ap (λ n. taken + n) (takes_none c.word e) ∙ omega arith) at.rest;
+        bytes =
+            sym (laid_more s.records.width s.list.area.now (values_of s) at.placement at.after what f.is at.is.width buffer at.is.at o)
+            ∙ ap (λ t. laid s.records.width (characters s.list.area.now (values_of s)) t buffer) (sym at.is_put)
+            ∙ g.bytes;
+        stars =
+            let h = stars_more s.records.width s.list.area.now (values_of s) at.placement at.after what f.is at.is.width {b = false} refl in
+            let i = ap (starred_in (values_of s)) at.is_put in
+            omega (arith, h, i, g.stars);
+        accepts = rest_accepts;
+      }
+
+-- after the last columns
+module _ (s : code.Sheet) (covers : List Cover) {was : List ℕ} {k taken starred j : ℕ} {buffer : List ℕ} {whole left : Trace} (l : length covers ≤ k)
+    (g : Laying s covers was k taken starred buffer whole j left) where
+  pub laid_bytes : laid s.records.width (characters s.list.area.now (values_of s)) left buffer ≡ laid s.records.width (characters s.list.area.now (values_of s)) whole was
+  laid_bytes = ap (λ t. laid s.records.width (characters s.list.area.now (values_of s)) t buffer) (sym (begins_end covers k g.begins l).0) ∙ g.bytes
+
+  pub laid_stars : starred + starred_in (values_of s) left ≡ starred_in (values_of s) whole
+  laid_stars = ap (λ t. starred + starred_in (values_of s) t) (sym (begins_end covers k g.begins l).0) ∙ g.stars
+
+-- ---- the whole walk, part by part
+
+-- what is left after the first columns of an accepted walk is accepted
+pub left_accepted : {h : Sheet} {t : List ℕ} {i j : ℕ} {cs : List Cover} {whole left : Trace} (vs : List Value) {n : ℕ} → Begins h t i cs whole j left → judged vs whole ≡ accepted n → judged vs left ≡ accepted n
+unfolding judged
+left_accepted vs Begins.none a = a
+left_accepted vs {n} (Begins.next {p} {whole} c b) a = left_accepted vs b (judged_rest vs p.what (judged vs whole) n a)
+
+-- what is left of the walk is accepted, and laid over the buffer as it is gives what the whole gives
+pub record LayingOn (s : code.Sheet) (was : List ℕ) (w : Walk) (starred : ℕ) (buffer : List ℕ) : Type 0 where
+  pub goes_by : GoesBy w s.run s.list.elements.now s.records
+  pub n : ℕ
+  pub accepts : judged (values_of s) (left_of w) ≡ accepted n
+  pub bytes : laid s.records.width (characters s.list.area.now (values_of s)) (left_of w) buffer ≡ laid s.records.width (characters s.list.area.now (values_of s)) (walk_of s) was
+  pub stars : starred + starred_in (values_of s) (left_of w) ≡ starred_in (values_of s) (walk_of s)
+
+module _ (s : code.Sheet) {was : List ℕ} {w : Walk} {starred : ℕ} {buffer : List ℕ} (g : LayingOn s was w starred buffer) {v : Walk} {p : Placed} {covers : List Cover} (as_placed : PlacedAs w v p covers) where
+  abbrev pub part : PlacedIn s.run s.list.elements.now s.records w.state.taken (left_of w) v p covers
+  part = placed_in g.goes_by as_placed
+
+  module _ {first : ℕ} (f : first ≡ w.state.taken) where
+    begins : BeginsIn s first (take p.count covers) (left_of w) part.taken part.left
+    begins = rw f part.begins
+
+    pub part_begins : SomeSmallBegins s first (take p.count covers)
+    part_begins = record { whole = left_of w; taken = part.taken; left = part.left; begins = begins; n = g.n; accepts = g.accepts }
+
+    module _ (more : ℕ) (out : List ℕ)
+        (stars : (taken : ℕ) (whole left : Trace) → BeginsIn s first (take p.count covers) whole taken left → more + starred_in (values_of s) left ≡ starred_in (values_of s) whole)
+        (bytes : (taken : ℕ) (whole left : Trace) → BeginsIn s first (take p.count covers) whole taken left
+        → laid s.records.width (characters s.list.area.now (values_of s)) left out ≡ laid s.records.width (characters s.list.area.now (values_of s)) whole buffer) where
+      left_stars : starred + more + starred_in (values_of s) part.left ≡ starred_in (values_of s) (walk_of s)
+      left_stars = let k = stars part.taken (left_of w) part.left begins in omega (arith, k, g.stars)
+
+      left_bytes : laid s.records.width (characters s.list.area.now (values_of s)) part.left out ≡ laid s.records.width (characters s.list.area.now (values_of s)) (walk_of s) was
+      left_bytes = bytes part.taken (left_of w) part.left begins ∙ g.bytes
+
+      -- no more than there are elements
+      pub few_so_far : {m : ℕ} → judged (values_of s) (walk_of s) ≡ accepted m → starred + more ≤ length s.list.elements.now
+      few_so_far {m} a =
+          let k : length (kinds_of s.list.elements.now) ≡ length s.list.elements.now = length-map _ _ in
+          omega (arith, left_stars, few_starred (given_sheet s.run s.list.elements.now s.records) (values_of s) m a, k)
+
+      pub goes_on_laying : p.stop ≡ stop.Full → LayingOn s was v (starred + more) out
+      goes_on_laying e =
+          let o = (stops_full part e).0 in
+          record {
+            goes_by = o.goes_by;
+            n = g.n;
+            accepts = ap (judged (values_of s)) (sym o.is_left) ∙ left_accepted (values_of s) part.begins g.accepts;
+            bytes = ap (λ t. laid s.records.width (characters s.list.area.now (values_of s)) t out) (sym o.is_left) ∙ left_bytes;
+            stars = ap (λ t. starred + more + starred_in (values_of s) t) (sym o.is_left) ∙ left_stars;
+          }
+
+      -- where nothing is left
+      pub all_laid : (p.stop ≡ stop.Full → ⊥) → (starred + more ≡ starred_in (values_of s) (walk_of s)) × (out ≡ laid s.records.width (characters s.list.area.now (values_of s)) (walk_of s) was)
+      unfolding laid starred_in
+      all_laid u = go p.stop refl
+        where
+          go : (k : Stop) → p.stop ≡ k → (starred + more ≡ starred_in (values_of s) (walk_of s)) × (out ≡ laid s.records.width (characters s.list.area.now (values_of s)) (walk_of s) was)
+          go (stop.Ends n) e =
+              let k = stops_ends part e in
+              let i = ap (starred_in (values_of s)) k in
+              (omega (arith, left_stars, i), sym (ap (λ t. laid s.records.width (characters s.list.area.now (values_of s)) t out) k) ∙ left_bytes)
+          go (stop.Refused why) e =
+              let k = stops_refused part e in
+              let i = ap (starred_in (values_of s)) k in
+              (omega (arith, left_stars, i), sym (ap (λ t. laid s.records.width (characters s.list.area.now (values_of s)) t out) k) ∙ left_bytes)
+          go stop.Full e = absurd (u e)

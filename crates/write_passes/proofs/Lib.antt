@@ -1,4 +1,4 @@
 pub mod PlacedLaws
+pub mod PutLaws
 pub mod CheckLaws
 pub mod LayLaws
-pub mod PutLaws

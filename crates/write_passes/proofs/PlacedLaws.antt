@@ -51,7 +51,7 @@ judged_clash : {n : ℕ} {why : Refusal} → refused why ≡ accepted n → ⊥
 judged_clash e = let z : ◌≡◌ {A = ℕ} 0 1 = cc in omega arith
 
 -- a test that refuses where it holds
-not_refused : (b : Bool) (why : Refusal) (rest : Judged) (n : ℕ) → cond b (refused why) rest ≡ accepted n → (b ≡ false) × (rest ≡ accepted n)
+pub not_refused : (b : Bool) (why : Refusal) (rest : Judged) (n : ℕ) → cond b (refused why) rest ≡ accepted n → (b ≡ false) × (rest ≡ accepted n)
 not_refused true why rest n e = absurd (judged_clash e)
 not_refused false why rest n e = (refl, e)
 

@@ -1,47 +1,89 @@
 -- What the passes of writing over the walk are given and answer. (Nothing here need be believed: the public call's contract does
 -- not speak of it.)
 -- Assumes nothing.
-use Rattle.std.specs.Prelude.{◌≡◌, Bool, false, List, ℕ, Result, Ok, Err}
-use Rattle.list_elements.specs.Elements.{kinds_of}
+use Rattle.std.specs.Prelude.{◌≡◌, false, true, List, ℕ, ◌≤◌, Option, Some, None, IfSome, Result, Ok, Err, length, take}
+use Rattle.format_items.specs.Items.{Field}
+use Rattle.format_items.specs.Met.{Met}
+use Rattle.format_items.specs.MetRanges.{MetWithin}
+use Rattle.list_elements.specs.Elements.{kind_of}
+use Rattle.list_elements.specs.Checked.{values_in}
 use Rattle.list_elements.specs.declared.Value.{Value}
-use Rattle.list_elements.specs.declared.listed.Listed.{Listed}
-use Rattle.sheet_walk.specs.Steps.{What, element, literal}
-use Rattle.sheet_walk.specs.Walk.{Trace, walk}
-use Rattle.sheet_walk.specs.Given.{given_sheet, WordCovers}
+use Rattle.sheet_walk.specs.Steps.{suits}
+use Rattle.sheet_walk.specs.Walk.{Trace, done, walk}
+use Rattle.sheet_walk.specs.Given.{given_sheet, PlacesAre}
+use Rattle.sheet_walk.specs.Followed.{Begins}
 use Rattle.sheet_walk.specs.declared.Cover.{Cover}
 use Rattle.sheet_walk.specs.declared.Refusal.{Refusal}
+use Rattle.sheet_walk.specs.declared.Refusal.TheVariants.{TooLarge}
 use Rattle.write_passes.specs.declared.Sheet.{Sheet}
-use Rattle.write_passes.specs.Placed.{field_too_large, value_at, Judged, accepted, refused, judged}
-use Rattle.list_elements.specs.Checked.{values_in}
+use Rattle.write_passes.specs.declared.checking.Checked.{Checked}
+use Rattle.write_passes.specs.Placed.{field_too_large, Judged, accepted, refused, judged}
 
--- a value is too large for what covers columns
-abbrev pub what_too_large : List Value → What → Bool
-what_too_large vs (element i f) = field_too_large f (value_at vs i)
-what_too_large vs (literal cs) = false
+-- ---- a field, of which the code keeps the places after its point alone
 
--- the columns are covered by an item that is met where the element of this place is the next of the list; t has the characters
--- of literals
-abbrev pub CoversIn : List ℕ → Listed → Cover → Type 0
-CoversIn t l c = WordCovers t (kinds_of l.elements.now) c.word c.place c.width
+-- a field that the value suits, with so many places
+pub record FieldOf (v : Value) (d : ℕ) (f : Field ℕ) : Type 0 where
+  pub suited : suits f (kind_of v) ≡ true
+  pub places : PlacesAre d f
+  pub within : MetWithin (Met.field f)
 
--- for some characters
-pub record SomeCovers (l : Listed) (c : Cover) : Type 0 where
-  pub t : List ℕ
-  pub covers : CoversIn t l c
+pub record SomeField (v : Value) (d : ℕ) : Type 0 where
+  pub f : Field ℕ
+  pub is : FieldOf v d f
 
--- the values of a sheet, and its walk
+-- for which it is not too large
+pub record SomeSmallField (v : Value) (d : ℕ) : Type 0 where
+  pub f : Field ℕ
+  pub is : FieldOf v d f
+  pub small : field_too_large f v ≡ false
+
+-- ---- a sheet
+
+-- its values, and its walk
 abbrev pub values_of : Sheet → List Value
 values_of s = values_in s.list
 
 abbrev pub walk_of : Sheet → Trace
 walk_of s = walk (given_sheet s.run s.list.elements.now s.records)
 
+-- a part of its walk begins with these columns, so many elements being taken before
+abbrev pub BeginsIn : Sheet → ℕ → List Cover → Trace → ℕ → Trace → Type 0
+BeginsIn s first cs whole taken left = Begins (given_sheet s.run s.list.elements.now s.records) s.run.chars.now first cs whole taken left
+
+pub record SomeBegins (s : Sheet) (first : ℕ) (cs : List Cover) : Type 0 where
+  pub whole : Trace
+  pub taken : ℕ
+  pub left : Trace
+  pub begins : BeginsIn s first cs whole taken left
+
+-- some part of its walk begins with them, from where on it is accepted
+pub record SomeSmallBegins (s : Sheet) (first : ℕ) (cs : List Cover) : Type 0 where
+  pub whole : Trace
+  pub taken : ℕ
+  pub left : Trace
+  pub begins : BeginsIn s first cs whole taken left
+  pub n : ℕ
+  pub accepts : judged (values_of s) whole ≡ accepted n
+
 -- the walk is accepted with the values, for some number of records
 pub record SomeAccepted (s : Sheet) : Type 0 where
   pub n : ℕ
   pub accepts : judged (values_of s) (walk_of s) ≡ accepted n
 
--- how a walk ends, as the code answers it
-abbrev pub ending_of : Judged → Result ℕ Refusal
-ending_of (accepted n) = Ok n
-ending_of (refused why) = Err why
+-- ---- the check
+
+-- the first element whose value is too large, as the code answers it, for a part of the walk and what is left after it
+abbrev pub CheckedTo : Option ℕ → Judged → Judged → Type 0
+CheckedTo (Some i) whole left = whole ≡ refused (TooLarge i)
+CheckedTo None whole left = whole ≡ left
+
+-- the first n columns are those of the whole walk, with so many records reached
+pub record WholeIn (s : Sheet) (covers : List Cover) (records n : ℕ) : Type 0 where
+  pub many : n ≤ length covers
+  pub taken : ℕ
+  pub begins : BeginsIn s 0 (take n covers) (walk_of s) taken (done records)
+
+-- how the walk ends, as the code answers it
+abbrev pub CheckedAs : Sheet → List Cover → Judged → Result Checked Refusal → Type 0
+CheckedAs s covers j (Ok c) = (j ≡ accepted c.records) × IfSome c.whole (WholeIn s covers c.records)
+CheckedAs s covers j (Err why) = j ≡ refused why

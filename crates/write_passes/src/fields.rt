@@ -1,62 +1,57 @@
 // What covers columns, in writing: the field of an element, or a literal.
-ghost use Rattle.std.specs.Prelude.{◌≡◌, List, ℕ, false, length};
-ghost use Rattle.format_words.specs.Words.{met_of};
-ghost use Rattle.sheet_walk.specs.Given.{what_of};
-ghost use Rattle.write_passes.specs.Placed.{characters_of, starred_of};
-ghost use Rattle.write_passes.specs.Passes.{what_too_large, CoversIn, SomeCovers};
-ghost use Rattle.list_elements.specs.Checked.{values_in};
+ghost use Rattle.std.specs.Prelude.{◌≡◌, List, ℕ, ◌+◌, ◌≤◌, true, length, take, drop};
+ghost use Rattle.format_items.specs.Items.{Field};
+ghost use Rattle.list_elements.specs.Limits.{within_limits};
+ghost use Rattle.write_passes.specs.Placed.{field_characters, field_starred, field_too_large};
+ghost use Rattle.write_passes.specs.Passes.{FieldOf, SomeField, SomeSmallField};
 
 use field_written::decimal::write_decimal;
 use field_written::integer::write_integer;
 use field_written::logical::write_logical;
 use field_written::text::write_text;
-use format_words::Word;
 use list_elements::Value;
-use list_elements::listed::Listed;
-use sheet_walk::Cover;
 
-// Whether the value of the element is too large for its field: only a decimal's can be.
+// Whether the value is too large for its field, which has so many places: only a decimal can be.
 #[inline(always)]
-pub fn too_large(cover: Cover, list: Listed<'_>) -> bool
-    requires { SomeCovers list cover }
-    ensures { (t : List ℕ) → result ≡ what_too_large (values_in list.entry) (what_of (met_of t cover.word) cover.place) }
+pub fn too_large(places: usize, value: Value) -> bool
+    requires good { (area : List ℕ) × (within_limits area value ≡ true) }
+    requires field { SomeField value places }
+    ensures { (f : Field ℕ) → FieldOf value places f → result ≡ field_too_large f value }
 {
-    let Word::F { width: _, places } = cover.word else {
+    let Value::Decimal(d) = value else {
         return false;
     };
-    let Value::Decimal(decimal) = list.elements[cover.place].value else {
-        return false;
-    };
-    number::rounding::too_large(decimal.units, decimal.places, usize::from(places))
+    number::rounding::too_large(d.units, d.places, places)
 }
 
-// Puts what covers the part: the field of the element, or the literal; whether it is a starred field.
+// Puts the field of a value, which is not too large, into its columns; whether the field is starred.
 #[inline(always)]
-pub fn put(part: &mut [u8], cover: Cover, chars: &[u8], list: Listed<'_>) -> bool
-    requires covers { CoversIn chars.now list cover }
-    requires wide { length part.old ≡ cover.width }
-    requires small { what_too_large (values_in list) (what_of (met_of chars.now cover.word) cover.place) ≡ false }
-    ensures stars { result ≡ starred_of (values_in list.entry) cover.width (what_of (met_of chars.now cover.word) cover.place) }
-    ensures bytes { part.new ≡ characters_of list.entry.area.now (values_in list.entry) cover.width (what_of (met_of chars.now cover.word) cover.place) }
+pub fn put(part: &mut [u8], places: usize, value: Value, area: &[u8]) -> bool
+    requires good { within_limits area.now value ≡ true }
+    requires wide { 1 ≤ length part.old }
+    requires field { SomeSmallField value places }
+    ensures stars { (f : Field ℕ) → FieldOf value places f → result ≡ field_starred f (length part.old) value }
+    ensures bytes { (f : Field ℕ) → FieldOf value places f → part.new ≡ field_characters area.now f (length part.old) value }
 {
-    if let Word::Literal { start, len } = cover.word {
-        part.copy_from_slice(&chars[usize::from(start)..][..usize::from(len)]);
-        return false;
-    }
-    match (cover.word, list.elements[cover.place].value) {
-        (Word::I { width: _ }, Value::Integer(n)) => write_integer(part, n),
-        (Word::F { width: _, places }, Value::Decimal(d)) => {
-            write_decimal(part, usize::from(places), d.units, d.places).unwrap()
-        }
-        (Word::L { width: _ }, Value::Logical(b)) => {
+    match value {
+        Value::Integer(n) => write_integer(part, n),
+        Value::Decimal(d) => { write_decimal(part, places, d.units, d.places).unwrap() }
+        Value::Logical(b) => {
             write_logical(part, b);
             false
         }
-        (Word::A | Word::Aw { width: _ }, Value::Text(t)) => {
-            write_text(part, &list.area[t.start..][..t.len]);
+        Value::Text(t) => {
+            write_text(part, &area[t.start..][..t.len]);
             false
         }
-        // The kind suits the field, so no other pair is met.
-        _ => unreachable!(),
     }
+}
+
+// Puts the characters of a literal, which begin at `start`, into its columns.
+#[inline(always)]
+pub fn put_literal(part: &mut [u8], start: usize, chars: &[u8])
+    requires { start + length part.old ≤ length chars.now }
+    ensures { part.new ≡ take (length part.old) (drop start chars.now) }
+{
+    part.copy_from_slice(&chars[start..][..part.len()]);
 }

@@ -1,4 +1,4 @@
-// The two passes of writing over the walk: one checks and stores nothing, the other lays the records.
+// What writing does with the placed items: it checks their values, and changes no record; then it lays the records.
 #![tactic(auto)]
 
 pub mod checking;

@@ -1,5 +1,5 @@
 use Rattle.std.proofs.Common.{◌⊎◌, ⊎_elim, arith, take_all, append-nil, Option, Some, None, inl, inr, ◌≡◌, ℕ, ◌+◌, ◌-◌, ◌≤◌, List, ◌++◌, rules, length, take, drop, sym, ap, ◌∙◌, subst, le_refl, drop_at, length-take-le}
-use Rattle.std.proofs.lemmas.Slice.{take-put_mid_below}
+use Rattle.buffer.proofs.Splicing.{front_and_part}
 use Rattle.std.specs.Option.{IfSome}
 use Rattle.std.proofs.lemmas.List.{take_at}
 use Rattle.std.proofs.KnownBytes.{Consumes-trans}
@@ -7,16 +7,6 @@ use Rattle.std.specs.Io.KnownBytes.{Consumes, IsAtEnd}
 use borrow.Rule.Slice.PartMut.{put_mid, post_of}
 use lib.Seq.{take-add, take-append-le}
 use Rattle.input_bytes.proofs.read_full.Goals as goal
-
--- what stood at the front, and then what was read
-front_and_read : (at room n : ℕ) (xs ys : List ℕ) → at ≤ length xs → n ≤ length ys → take at xs ++ take n ys ≡ take (at + n) (put_mid at room xs ys)
-front_and_read at room n xs ys within fits =
-    let new = put_mid at room xs ys in
-    let after = post_of at room xs in
-    let front : take at new ≡ take at xs = take-put_mid_below _ _ _ _ _ (le_refl _) within in
-    let back : take n (drop at new) ≡ take n ys =
-    ap (take n) (drop_at (take at xs) (ys ++ after) at (length-take-le at xs within)) ∙ take-append-le n ys after fits in
-    sym (take-add at n new ∙ ap (λ l. l ++ take n (drop at new)) front ∙ ap (λ l. take at xs ++ l) back)
 
 -- what a reader gave that filled the buffer, or that is at its end
 first_bytes : (a b : Option (List ℕ)) (n : ℕ) (buffer : List ℕ) → n ≤ length buffer → Consumes a b (take n buffer) → (length buffer ≤ n) ⊎ IsAtEnd b
@@ -32,7 +22,7 @@ first_bytes (Some x) (Some y) n buffer within given all =
 
 pub loop-done-preserved : goal.loop-done-preserved
 loop-done-preserved g c =
-    let same = front_and_read c.loop-done.done (length c.loop-done.buffer - c.loop-done.done) c.in_ok-n.n c.loop-done.buffer c.read.new.buf
+    let same = front_and_part c.loop-done.done (length c.loop-done.buffer - c.loop-done.done) c.in_ok-n.n c.loop-done.buffer c.read.new.buf
     c.loop-done.invariant.within c.in_ok-n.ensures.bound.0 in
     record {
       within = search rules;
@@ -43,7 +33,7 @@ pub returns-then-n-eq0-clause-first : goal.returns-then-n-eq0-clause-first
 returns-then-n-eq0-clause-first g c =
     let at = c.loop-done.done in
     let new = put_mid at (length c.loop-done.buffer - at) c.loop-done.buffer c.read.new.buf in
-    let same = front_and_read at (length c.loop-done.buffer - at) c.in_ok-n.n c.loop-done.buffer c.read.new.buf
+    let same = front_and_part at (length c.loop-done.buffer - at) c.in_ok-n.n c.loop-done.buffer c.read.new.buf
     c.loop-done.invariant.within c.in_ok-n.ensures.bound.0 in
     let all = subst (Consumes _ _) same (Consumes-trans _ _ _ _ _ c.loop-done.invariant.given c.in_ok-n.ensures.bytes.0) in
     let none : at + c.in_ok-n.n ≡ at = omega (arith, c.if-n-eq0.true) in

@@ -11,4 +11,4 @@ returns-in_err-literal c =
 pub returns : goal.returns
 returns c =
     let begun = c.requires.at_in_bounds in
-    λ l. took_literal c.requires.room.0 c.requires.room.1 c.in_ok-literal.ensures begun.0 begun.1 begun.2 (moved refl) l _ refl
+    λ l. took_literal c.requires.room.0 c.requires.room.1 c.in_ok-literal.ensures begun.0 begun.1 begun.2 (moved refl) l _ _ c.of-word.ensures refl

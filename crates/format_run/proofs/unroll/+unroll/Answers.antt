@@ -13,7 +13,7 @@ use Rattle.format_run.proofs.unroll.+unroll.Goals.{In-Some, In-Item, In-Group, A
 left : (t : ℕ) (c : In-Some t) → (c.loop-entry.end ≤ length c.loop-entry.run) × SomeItemsFit c.loop-entry.rest.now c.args.level (length c.loop-entry.run - c.loop-entry.end)
 left t c = fits_left c.loop-entry.invariant (subst (λ n. SomeItemsFit c.args.entries.now c.args.level n) (sym c.loop-entry.auto.run) c.requires)
 
-item_is : (t : ℕ) (c : In-Item t) → c.loop-entry.rest.now ≡ entry.Item c.in-Item.word c.in-Item.repeat ∷ c.in-Some.tail.now
+item_is : (t : ℕ) (c : In-Item t) → c.loop-entry.rest.now ≡ entry.Item c.in-Item.repeat c.in-Item.word ∷ c.in-Some.tail.now
 item_is t c = c.in-Some.ensures.cases.0 ∙ ap (λ e. e ∷ c.in-Some.tail.now) c.in-Item.is
 
 group_is : (t : ℕ) (c : In-Group t) → c.loop-entry.rest.now ≡ entry.Group c.in-Group.entries c.in-Group.repeat ∷ c.in-Some.tail.now

@@ -13,17 +13,17 @@ abbrev as_list : List Element → ℕ → carried.List
 as_list es n = record { elements = es; count = n }
 
 pub loop-i-init : goal.loop-i-init
-loop-i-init c = rw c.empty-list.ensures ((λ cs h. giving_none), refl)
+loop-i-init c = rw c.requires.empty ((λ cs h. giving_none), refl)
 
 pub give_value-value-requires-clause-room : goal.give_value-value-requires-clause-room
 give_value-value-requires-clause-room c =
     let v = c.loop-i.invariant in
-    omega (arith, next_room c.requires.held (v.0 c.requires.cs c.requires.held) c.loop-i-test.true, v.1, c.text_len-len.ensures)
+    omega (arith, next_room c.requires.found.held (v.0 c.requires.found.cs c.requires.found.held) c.loop-i-test.true, v.1, c.text_len-len.ensures)
 
 pub overflow_add-at : goal.overflow_add-at
 overflow_add-at c =
     let v = c.loop-i.invariant in
-    let h : c.loop-i.at + c.text_len-len.result ≤ length c.args.area.now = omega (arith, next_room c.requires.held (v.0 c.requires.cs c.requires.held) c.loop-i-test.true, c.text_len-len.ensures) in
+    let h : c.loop-i.at + c.text_len-len.result ≤ length c.args.area.now = omega (arith, next_room c.requires.found.held (v.0 c.requires.found.cs c.requires.found.held) c.loop-i-test.true, c.text_len-len.ensures) in
     search rules
 
 pub loop-i-preserved : goal.loop-i-preserved

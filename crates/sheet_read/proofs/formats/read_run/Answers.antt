@@ -25,9 +25,6 @@ pub returns-then-not-texts_fit : goal.returns-then-not-texts_fit
 returns-then-not-texts_fit c = λ f h.
     rw c.in_ok-wanted.was (no_room c.args.width.columns f good (kinds_of c.in_ok-wanted.wanted.now) c.args.room c.args.records.now (right c.args.width) h.accepts refl (sym c.texts_fit.ensures ∙ c.if-not-texts_fit.true))
 
-pub read_pass-requires-clause-room : goal.read_pass-requires-clause-room
-read_pass-requires-clause-room c = (some_lent _ _ c.lent.ensures (goal.at.read_pass-requires-clause-room c).In_ok-lent.in_ok-lent.was).room
-
 pub returns-in_err-lent : goal.returns-in_err-lent
 returns-in_err-lent c = λ f h.
     let n = none_lent _ _ c.lent.ensures c.in_err-lent.was in

@@ -38,9 +38,9 @@ returns-in_err-reached c =
 pub unwrap-requires : goal.unwrap-requires
 unwrap-requires c = let a = accepting (goal.at.unwrap-requires c).In_ok-reached in rw a.wanted_is refl
 
-pub give-list-requires : goal.give-list-requires
-give-list-requires c =
-    let a = accepting (goal.at.give-list-requires c).In_ok-reached in
+pub give-requires-clause-found : goal.give-requires-clause-found
+give-requires-clause-found c =
+    let a = accepting (goal.at.give-requires-clause-found c).In_ok-reached in
     let e : a.es ≡ c.unwrap.result = let q : Ok a.es ≡ Ok c.unwrap.result = sym a.wanted_is ∙ c.unwrap.ensures in cc in
     record { cs = a.cs; held = subst (λ z. Found c.args.records.now z.now c.read_under.new.found (length c.args.area.now) a.cs) e a.found_all }
 
@@ -50,5 +50,5 @@ returns c =
     let a = accepting (goal.at.returns c).In_ok-reached in
     let e : a.es ≡ c.unwrap.result = let q : Ok a.es ≡ Ok c.unwrap.result = sym a.wanted_is ∙ c.unwrap.ensures in cc in
     let h = subst (λ z. Found c.args.records.now z.now c.read_under.new.found (length c.args.area.now) a.cs) e a.found_all in
-    let p = finished k.R k.format k.wanted k.area k.records (a.answered (c.give-list.ensures.list a.cs h) (c.give-list.ensures.texts a.cs h)) in
+    let p = finished k.R k.format k.wanted k.area k.records (a.answered (c.give.ensures.list a.cs h) (c.give.ensures.texts a.cs h)) in
     record { answers = p.answers; values = p.values; texts = p.texts; number = p.number; place = p.place; records = p.records; starred = p.starred }

@@ -1,37 +1,37 @@
-use Rattle.std.proofs.Common.{rules, ◌≡◌, refl, sym, ◌∙◌, ap}
-use Rattle.std.specs.Prelude.{Err}
-use Rattle.format_words.specs.Words.{met_of}
+use Rattle.std.proofs.Common.{refl, ap, ◌∙◌, arith}
 use Rattle.sheet_walk.specs.Followed.{left_of}
-use Rattle.sheet_walk.proofs.Puts.{goes_on, fewer, cover_in, next_covers, next_ends, next_refused}
+use Rattle.sheet_walk.proofs.Parts.{fewer_left}
 use Rattle.write_passes.specs.Placed.{judged}
 use Rattle.write_passes.specs.Passes.{values_of}
-use Rattle.write_passes.proofs.CheckLaws.{put_large, put_small}
+use Rattle.write_passes.proofs.CheckLaws.{part, part_begins, part_large, part_ends, part_refused, part_goes_on, all_if}
 use Rattle.write_passes.proofs.checking.check_pass.Goals as goal
 
-pub returns-in_err-cover : goal.returns-in_err-cover
-unfolding judged
-returns-in_err-cover c =
-    let r : c.from_residual.result ≡ Err c.in_err-cover.field-0.0 = search rules in
-    rw (r, ← c.loop-cover.invariant.1, next_refused c.loop-cover.walk c.next.new.self c.next.ensures c.in_err-cover.was) refl
+pub loop-place-init : goal.loop-place-init
+loop-place-init c = (record { goes_by = c.new-walk.ensures.goes_by; same = ap (judged (values_of c.args.sheet)) c.new-walk.ensures.left; whole = λ e. (c.new-walk.ensures.left, c.new-walk.ensures.none_taken) }, refl)
 
-pub returns-then-too_large : goal.returns-then-too_large
-returns-then-too_large c =
-    let m = next_covers c.loop-cover.walk c.next.new.self c.next.ensures c.in_ok-cover.was c.in-Some.is in
-    let t = c.args.sheet.run.chars.now in
-    let e = put_large (values_of c.args.sheet) m.placement (left_of c.next.new.self) (met_of t c.in-Some.cover.word) c.in-Some.cover.place (cover_in c.loop-cover.invariant.0 m).what (sym (c.too_large.ensures t) ∙ c.if-too_large.true) in
-    rw (← c.loop-cover.invariant.1, m.left, e) refl
+pub first_too_large-requires : goal.first_too_large-requires
+first_too_large-requires c =
+    let g = c.loop-place.invariant.0 in
+    let p = part c.args.sheet g c.place-placed.ensures in
+    record { whole = left_of c.loop-place.walk; taken = p.taken; left = p.left; begins = part_begins c.args.sheet g c.place-placed.ensures c.taken-first.ensures }
 
-pub loop-cover-smaller : goal.loop-cover-smaller
-loop-cover-smaller c = fewer c.loop-cover.invariant.0 (next_covers c.loop-cover.walk c.next.new.self c.next.ensures c.in_ok-cover.was c.in-Some.is)
+pub returns-in-Some : goal.returns-in-Some
+returns-in-Some c = part_large c.args.sheet c.loop-place.invariant.0 c.place-placed.ensures c.taken-first.ensures c.first_too_large.ensures c.in-Some.is
 
-pub loop-cover-preserved : goal.loop-cover-preserved
-loop-cover-preserved c =
-    let m = next_covers c.loop-cover.walk c.next.new.self c.next.ensures c.in_ok-cover.was c.in-Some.is in
-    let g = c.loop-cover.invariant.0 in
-    let t = c.args.sheet.run.chars.now in
-    let e = put_small (values_of c.args.sheet) m.placement (left_of c.next.new.self) (met_of t c.in-Some.cover.word) c.in-Some.cover.place (cover_in g m).what (sym (c.too_large.ensures t) ∙ c.if-too_large.false) in
-    (goes_on g m, sym e ∙ ap (judged (values_of c.args.sheet)) (sym m.left) ∙ c.loop-cover.invariant.1)
+pub returns-in-Ends : goal.returns-in-Ends
+returns-in-Ends c = (
+  part_ends c.args.sheet c.loop-place.invariant.0 c.place-placed.ensures c.taken-first.ensures c.first_too_large.ensures c.in_default.not-Some c.in-Ends.is,
+  rw c.then_some-whole.ensures (all_if c.args.sheet c.loop-place.invariant.0 c.place-placed.ensures c.loop-place.at_once c.in-Ends.is refl),
+)
 
-pub returns : goal.returns
-unfolding judged
-returns c = rw (← c.loop-cover.invariant.1, next_ends c.loop-cover.walk c.next.new.self c.next.ensures c.in_ok-cover.field-0 c.in_ok-cover.was c.in_default.not-Some, c.reached.ensures) refl
+pub returns-in-Refused : goal.returns-in-Refused
+returns-in-Refused c = part_refused c.args.sheet c.loop-place.invariant.0 c.place-placed.ensures c.taken-first.ensures c.first_too_large.ensures c.in_default.not-Some c.in-Refused.is
+
+pub loop-place-smaller : goal.loop-place-smaller
+loop-place-smaller c = fewer_left (part c.args.sheet c.loop-place.invariant.0 c.place-placed.ensures) c.in-Full.is (omega (arith, c.requires, c.loop-place.invariant.1, c.place-placed.auto.covers))
+
+pub loop-place-preserved : goal.loop-place-preserved
+loop-place-preserved c = (
+  part_goes_on c.args.sheet c.loop-place.invariant.0 c.place-placed.ensures c.taken-first.ensures c.first_too_large.ensures c.in_default.not-Some c.in-Full.is,
+  c.place-placed.auto.covers ∙ c.loop-place.invariant.1,
+)

@@ -1,95 +1,89 @@
-use Rattle.std.proofs.Common.{◌≡◌, refl, sym, ◌∙◌, ap, arith}
+use Rattle.std.proofs.Common.{◌≡◌, refl, sym, ◌∙◌, false, length, arith}
 use Rattle.std.specs.Prelude.{Ok}
 use Rattle.std.proofs.lemmas.List.{take_rest}
-use Rattle.number.specs.Rounding.{rounded_units}
+use borrow.Author.Rules.{rules}
+use Rattle.number.specs.Rounding.{rounded_units, too_large}
 use Rattle.field_written.specs.Numeral.{Numeric, plain}
 use Rattle.field_written.specs.Written.{starred}
-use Rattle.format_words.specs.Words.{met_of}
-use Rattle.list_elements.proofs.WithinLaws.{within_integer, within_decimal}
+use Rattle.list_elements.proofs.WithinLaws.{within_integer, within_decimal, within_text}
 use Rattle.list_elements.specs.Elements.{text_bytes}
-use Rattle.write_passes.specs.Placed.{field_characters, field_starred, field_too_large}
-use Rattle.write_passes.proofs.PutLaws.{field_within, good, stars, puts, large, as_bits, decimal_answer, decimal_bytes, text_put}
-use borrow.Author.Rules.{rules}
+use Rattle.write_passes.proofs.PutLaws.{integer_puts, decimal_puts, logical_puts, text_puts, few_places, as_bits, decimal_answer, decimal_bytes}
 use Rattle.write_passes.proofs.fields.put.Goals as goal
 
 pub write_integer-requires : goal.write_integer-requires
 write_integer-requires c =
-    let n = c.in-I-Integer in
-    let h = within_integer c.args.list.area.now n.n (good c.args.list c.requires.covers (ap (met_of c.args.chars.now) n.is-0) n.is-1) in
+    let n = c.in-Integer in
+    let h = within_integer c.args.area.now n.n (rw n.is at c.requires.good) in
     rw (as_bits n.n h) h
 
 pub write_decimal-requires : goal.write_decimal-requires
 write_decimal-requires c =
-    let n = c.in-F-Decimal in
-    let e = ap (met_of c.args.chars.now) n.is-0 in
-    let h = within_decimal c.args.list.area.now n.d (good c.args.list c.requires.covers e n.is-1) in
+    let x = c.in-Decimal in
+    let h = within_decimal c.args.area.now x.d (rw x.is at c.requires.good) in
     record {
-      wanted = rw c.from-in-F-Decimal.ensures (field_within c.args.list c.requires.covers e n.is-1).1.1;
-      magnitude = rw (as_bits n.d.units h.0) h.0;
+      wanted = few_places c.requires.field.f (rw x.is at c.requires.field.is);
+      magnitude = rw (as_bits x.d.units h.0) h.0;
       given = h.1;
     }
 
 pub unwrap-requires : goal.unwrap-requires
-unfolding field_too_large
 unwrap-requires c =
-    let n = c.in-F-Decimal in
-    let e = ap (met_of c.args.chars.now) n.is-0 in
-    let h = within_decimal c.args.list.area.now n.d (good c.args.list c.requires.covers e n.is-1) in
-    rw (c.write_decimal.ensures.answer, as_bits n.d.units h.0, c.from-in-F-Decimal.ensures, decimal_answer _ n.places n.d.units n.d.places (sym (large c.args.list c.requires.covers e n.is-1) ∙ c.requires.small)) refl
+    let x = c.in-Decimal in
+    let g = c.requires.field in
+    let h = within_decimal c.args.area.now x.d (rw x.is at c.requires.good) in
+    let p = decimal_puts c.args.area.now (length c.args.part.now) x.d g.f (rw x.is at g.is) in
+    rw (c.write_decimal.ensures.answer, as_bits x.d.units h.0, decimal_answer _ c.args.places x.d.units x.d.places (sym p.is_large ∙ (rw x.is at g.small))) refl
 
 pub slice_bounds-write_text-count : goal.slice_bounds-write_text-count
-slice_bounds-write_text-count c = let h = (text_put c.args.list c.args.cover.word c.requires.covers c.in-A-Text.is-1 c.in_default.not-Literal).inside in omega arith
+slice_bounds-write_text-count c = let h = (within_text c.args.area.now c.in-Text.t (rw c.in-Text.is at c.requires.good)).inside in omega arith
 
 pub slice_bounds-write_text-start : goal.slice_bounds-write_text-start
-slice_bounds-write_text-start c = let h = (text_put c.args.list c.args.cover.word c.requires.covers c.in-A-Text.is-1 c.in_default.not-Literal).inside in search rules
+slice_bounds-write_text-start c = let h = (within_text c.args.area.now c.in-Text.t (rw c.in-Text.is at c.requires.good)).inside in search rules
 
-pub slice_bounds-write_text-end-in-A-Text : goal.slice_bounds-write_text-end-in-A-Text
-slice_bounds-write_text-end-in-A-Text c = let h = (text_put c.args.list c.args.cover.word c.requires.covers c.in-A-Text.is-1 c.in_default.not-Literal).inside in search rules
+pub slice_bounds-write_text-end-in-Text : goal.slice_bounds-write_text-end-in-Text
+slice_bounds-write_text-end-in-Text c = let h = (within_text c.args.area.now c.in-Text.t (rw c.in-Text.is at c.requires.good)).inside in search rules
 
-pub returns-in-I-Integer : goal.returns-in-I-Integer
-unfolding field_characters field_starred
-returns-in-I-Integer c =
-    let n = c.in-I-Integer in
-    let e = ap (met_of c.args.chars.now) n.is-0 in
-    let h = within_integer c.args.list.area.now n.n (good c.args.list c.requires.covers e n.is-1) in
+pub returns-in-Integer : goal.returns-in-Integer
+returns-in-Integer c =
+    let n = c.in-Integer in
+    let h = within_integer c.args.area.now n.n (rw n.is at c.requires.good) in
     record {
-      stars = (rw (as_bits n.n h, c.requires.wide) at c.write_integer.ensures.answer) ∙ sym (stars c.args.list c.requires.covers e n.is-1);
-      bytes = (rw (as_bits n.n h, c.requires.wide) at c.write_integer.ensures.laid) ∙ sym (puts c.args.list c.requires.covers e n.is-1);
+      stars = λ f o. rw n.is ((rw (as_bits n.n h) at c.write_integer.ensures.answer) ∙ sym (integer_puts c.args.area.now (length c.args.part.now) n.n f (rw n.is at o)).is_starred);
+      bytes = λ f o. rw n.is ((rw (as_bits n.n h) at c.write_integer.ensures.laid) ∙ sym (integer_puts c.args.area.now (length c.args.part.now) n.n f (rw n.is at o)).are);
     }
 
-pub returns-in-F-Decimal : goal.returns-in-F-Decimal
-unfolding field_characters field_starred field_too_large
-returns-in-F-Decimal c =
-    let n = c.in-F-Decimal in
-    let e = ap (met_of c.args.chars.now) n.is-0 in
-    let h = within_decimal c.args.list.area.now n.d (good c.args.list c.requires.covers e n.is-1) in
-    let small = sym (large c.args.list c.requires.covers e n.is-1) ∙ c.requires.small in
+pub returns-in-Decimal : goal.returns-in-Decimal
+returns-in-Decimal c =
+    let x = c.in-Decimal in
+    let w = length c.args.part.now in
+    let h = within_decimal c.args.area.now x.d (rw x.is at c.requires.good) in
+    let g = c.requires.field in
+    let small : too_large x.d.units x.d.places c.args.places ≡ false = sym (decimal_puts c.args.area.now w x.d g.f (rw x.is at g.is)).is_large ∙ (rw x.is at g.small) in
+    let r : Ok c.unwrap.result ≡ Ok (starred plain (Numeric.F c.args.places) w (rounded_units x.d.units x.d.places c.args.places)) =
+    sym c.unwrap.ensures ∙ (rw (as_bits x.d.units h.0) at c.write_decimal.ensures.answer) ∙ decimal_answer w c.args.places x.d.units x.d.places small in
+    let z : c.unwrap.result ≡ starred plain (Numeric.F c.args.places) w (rounded_units x.d.units x.d.places c.args.places) = cc in
     record {
-      stars =
-          let r : Ok c.unwrap.result ≡ Ok (starred plain (Numeric.F n.places) c.args.cover.width (rounded_units n.d.units n.d.places n.places)) =
-          sym c.unwrap.ensures
-          ∙ (rw (as_bits n.d.units h.0, c.from-in-F-Decimal.ensures, c.requires.wide) at c.write_decimal.ensures.answer)
-          ∙ decimal_answer c.args.cover.width n.places n.d.units n.d.places small in
-          let z : c.unwrap.result ≡ starred plain (Numeric.F n.places) c.args.cover.width (rounded_units n.d.units n.d.places n.places) = cc in
-          z ∙ sym (stars c.args.list c.requires.covers e n.is-1);
-      bytes =
-          (rw (as_bits n.d.units h.0, c.from-in-F-Decimal.ensures) at c.write_decimal.ensures.laid)
-          ∙ decimal_bytes c.args.cover.width n.places n.d.units n.d.places small _ c.requires.wide
-          ∙ sym (puts c.args.list c.requires.covers e n.is-1);
+      stars = λ f o. rw x.is (z ∙ sym (decimal_puts c.args.area.now w x.d f (rw x.is at o)).is_starred);
+      bytes = λ f o.
+          rw x.is
+          ((rw (as_bits x.d.units h.0) at c.write_decimal.ensures.laid)
+          ∙ decimal_bytes w c.args.places x.d.units x.d.places small c.args.part.now refl
+          ∙ sym (decimal_puts c.args.area.now w x.d f (rw x.is at o)).are);
     }
 
-pub returns-in-L-Logical : goal.returns-in-L-Logical
-unfolding field_characters field_starred
-returns-in-L-Logical c =
-    let n = c.in-L-Logical in
-    let e = ap (met_of c.args.chars.now) n.is-0 in
+pub returns-in-Logical : goal.returns-in-Logical
+returns-in-Logical c =
+    let b = c.in-Logical in
     record {
-      stars = sym (stars c.args.list c.requires.covers e n.is-1);
-      bytes = (rw c.requires.wide at c.write_logical.ensures) ∙ sym (puts c.args.list c.requires.covers e n.is-1);
+      stars = λ f o. rw b.is (sym (logical_puts c.args.area.now (length c.args.part.now) b.b f (rw b.is at o)).is_starred);
+      bytes = λ f o. rw b.is (c.write_logical.ensures ∙ sym (logical_puts c.args.area.now (length c.args.part.now) b.b f (rw b.is at o)).are);
     }
 
-pub returns-in-A-Text : goal.returns-in-A-Text
+pub returns-in-Text : goal.returns-in-Text
 unfolding text_bytes
-returns-in-A-Text c =
-    let p = text_put c.args.list c.args.cover.word c.requires.covers c.in-A-Text.is-1 c.in_default.not-Literal in
-    record { stars = sym p.unstarred; bytes = (rw c.requires.wide at c.write_text.ensures) ∙ rw (take_rest c.args.list.area.now c.in-A-Text.t.start) (sym p.is) }
+returns-in-Text c =
+    let t = c.in-Text in
+    record {
+      stars = λ f o. rw t.is (sym (text_puts c.args.area.now (length c.args.part.now) t.t f (rw t.is at o)).is_starred);
+      bytes = λ f o. rw t.is (c.write_text.ensures ∙ rw (take_rest c.args.area.now t.t.start) (sym (text_puts c.args.area.now (length c.args.part.now) t.t f (rw t.is at o)).are));
+    }

@@ -1,22 +1,19 @@
-use Rattle.std.proofs.Common.{refl, sym, ap, ◌∙◌}
-use Rattle.format_words.specs.Words.{met_of}
+use Rattle.std.proofs.Common.{sym, ◌∙◌}
 use Rattle.list_elements.proofs.WithinLaws.{within_decimal}
-use Rattle.write_passes.specs.Placed.{field_too_large}
-use Rattle.write_passes.proofs.PutLaws.{field_within, good, large, other_large, as_bits}
+use Rattle.write_passes.proofs.PutLaws.{decimal_puts, other_large, few_places, as_bits}
 use Rattle.write_passes.proofs.fields.too_large.Goals as goal
 
 pub returns-in_default : goal.returns-in_default
-returns-in_default c = λ t. sym (other_large t c.args.list c.args.cover.place c.args.cover.word c.in_default.not-F)
+returns-in_default c = λ f o. sym (other_large c.args.value f c.in_default.not-Decimal o)
 
 pub too_large-requires : goal.too_large-requires
 too_large-requires c =
-    let e = ap (met_of c.requires.t) c.in-F.is in
-    let h = within_decimal c.args.list.area.now c.in-Decimal.decimal (good c.args.list c.requires.covers e c.in-Decimal.is) in
-    (rw (as_bits c.in-Decimal.decimal.units h.0) h.0, h.1, rw c.from.ensures (field_within c.args.list c.requires.covers e c.in-Decimal.is).1.1)
+    let x = c.in-Decimal in
+    let h = within_decimal c.requires.good.0 x.d (rw x.is at c.requires.good.1) in
+    (rw (as_bits x.d.units h.0) h.0, h.1, few_places c.requires.field.f (rw x.is at c.requires.field.is))
 
 pub returns : goal.returns
-unfolding field_too_large
-returns c = λ t.
-    let e = ap (met_of c.requires.t) c.in-F.is in
-    let h = within_decimal c.args.list.area.now c.in-Decimal.decimal (good c.args.list c.requires.covers e c.in-Decimal.is) in
-    (rw (as_bits c.in-Decimal.decimal.units h.0, c.from.ensures) at c.too_large.ensures) ∙ sym (large c.args.list c.requires.covers e c.in-Decimal.is) ∙ rw c.in-F.is refl
+returns c = λ f o.
+    let x = c.in-Decimal in
+    let h = within_decimal c.requires.good.0 x.d (rw x.is at c.requires.good.1) in
+    rw x.is ((rw (as_bits x.d.units h.0) at c.too_large.ensures) ∙ sym (decimal_puts c.requires.good.0 0 x.d f (rw x.is at o)).is_large)

@@ -1,6 +1,7 @@
 use Rattle.std.proofs.Common.{Bor, refl, ap, ◌∙◌, List}
 use Rattle.std.specs.List.{list_any}
-use Rattle.format_words.specs.declared.Word.{Word}
+use Rattle.format_words.specs.declared.packed.Packed.{Packed}
+use Rattle.format_words.specs.Packing.{word_in}
 use Rattle.sheet_walk.specs.Given.{word_is_field}
 use Rattle.sheet_walk.specs.Walk.{walk}
 use Rattle.sheet_walk.proofs.Starts.{part_field, words_from}
@@ -10,7 +11,7 @@ pub invariant_of-result-clause-returns_is : goal.invariant_of-result-clause-retu
 invariant_of-result-clause-returns_is c =
     let ws = c.args.run.words.now in
     c.has_field.ensures
-    ∙ ap (list_any word_is_field) (ap (λ (b : Bor (List Word)). b.now) c.unwrap_or-part.ensures ∙ words_from ws c.args.run.back c.get.result c.get.ensures.lookup _ refl)
+    ∙ ap (list_any (λ p. word_is_field (word_in p))) (ap (λ (b : Bor (List Packed)). b.now) c.unwrap_or-part.ensures ∙ words_from ws c.args.run.back c.get.result c.get.ensures.lookup _ refl)
     ∙ part_field c.args.run.chars.now ws c.args.run.back
 
 pub returns-clause-left : goal.returns-clause-left
