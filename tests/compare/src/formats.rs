@@ -14,6 +14,7 @@ pub fn format(random: &mut Random) -> Vec<u8> {
         14..=16 => fieldless_part(random),
         17..=22 => wild(random),
         23..=30 => overlapping(random),
+        31..=35 => crowded(random),
         _ => plain(random),
     };
     if random.chance(7) {
@@ -183,6 +184,24 @@ fn overlapping(random: &mut Random) -> Vec<u8> {
             maker.literal()
         }
     }
+    maker.close()
+}
+
+/// Many items that cover columns, in a group to return to: a field or some, then literals, so that the list soon has 16 or 80 of
+/// them, one more or one fewer.
+fn crowded(random: &mut Random) -> Vec<u8> {
+    let literals = random.pick(&[1, 3, 7, 15, 15, 15, 15, 16, 39, 78, 79, 79, 79, 79, 200]);
+    let column = random.within(1..=12);
+    let mut maker = Maker::new(random);
+    if maker.random.chance(20) {
+        maker.items(0, 2);
+        maker.put(",");
+    }
+    maker.put("(");
+    maker.field();
+    maker.put(format!(",{literals}(T{column},"));
+    maker.literal();
+    maker.put("))");
     maker.close()
 }
 

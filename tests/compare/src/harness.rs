@@ -78,9 +78,11 @@ impl<'a, C: Calls> Harness<'a, C> {
         same("write", case, (expected, Bytes(&right)), (actual, Bytes(&buffer)))?;
         unchanged("write", case, actual, &case.buffer, &buffer)?;
         if actual.number == 0 {
-            let outcome = readback::check(&mut self.random, self.calls, case, actual, &buffer);
-            let outcome = outcome.map_err(|what| difference("stars and reading back", case, what, Bytes(&buffer)))?;
-            self.tally.count_outcome(outcome);
+            let told = |what| difference("stars and reading back", case, what, Bytes(&buffer));
+            let traced = readback::traced(case, &buffer).map_err(told)?;
+            self.tally.count_items(traced.placements.len(), case.count as usize);
+            let outcome = readback::check(&mut self.random, self.calls, case, actual, &buffer, &traced);
+            self.tally.count_outcome(outcome.map_err(told)?);
         }
         Ok(())
     }

@@ -16,6 +16,13 @@ pub enum Outcome {
     CoveredTwice,
 }
 
+/// The trace of an accepted writing.
+pub fn traced(case: &Writing, buffer: &[u8]) -> Result<Trace, String> {
+    let room = buffer.len() / case.width as usize;
+    trace(case.width, &case.format, &case.elements, case.count, &case.area, room)
+        .map_err(|refusal| format!("accepted, where the walk meets {refusal:?}"))
+}
+
 /// Checks 'Stars and reading back' on an accepted writing; `buffer` is as the writing left it.
 pub fn check(
     random: &mut Random,
@@ -23,16 +30,14 @@ pub fn check(
     case: &Writing,
     answer: Answer,
     buffer: &[u8],
+    traced: &Trace,
 ) -> Result<Outcome, String> {
-    let room = buffer.len() / case.width as usize;
-    let traced = trace(case.width, &case.format, &case.elements, case.count, &case.area, room)
-        .map_err(|refusal| format!("accepted, where the walk meets {refusal:?}"))?;
-    check_stars(&traced, answer)?;
+    check_stars(traced, answer)?;
     if traced.covers_twice() {
         return Ok(Outcome::CoveredTwice);
     }
-    check_asterisks(&traced, case.width as usize, buffer)?;
-    check_reading(random, calls, case, answer, buffer, &traced)
+    check_asterisks(traced, case.width as usize, buffer)?;
+    check_reading(random, calls, case, answer, buffer, traced)
 }
 
 /// "The starred number in the result is the number of these fields."

@@ -75,6 +75,8 @@ pub const SLIPS: &[Slip] = &[
     Slip { name: "width 255 refused", write: width_255, ..RIGHT },
     Slip { name: "largest magnitude refused", write: largest_refused, ..RIGHT },
     Slip { name: "byte after the records blanked", write: byte_after, ..RIGHT },
+    Slip { name: "17th item blank", write: |case, buffer| item_blank(case, buffer, 16), ..RIGHT },
+    Slip { name: "81st item blank", write: |case, buffer| item_blank(case, buffer, 80), ..RIGHT },
     Slip { name: "given slots past the count kept", read: slots_kept, ..RIGHT },
     Slip { name: "area blanked after the texts", read: area_blanked, ..RIGHT },
     Slip { name: "just enough area refused", read: just_enough_area, ..RIGHT },
@@ -116,6 +118,15 @@ fn patched(case: &Writing, buffer: &mut [u8], patch: impl Fn(&Placement, &mut [u
     for placement in traced(case).map_or(Vec::new(), |traced| traced.placements) {
         let starred = patch(&placement, &mut buffer[placement.span.bytes(case.width as usize)]);
         answer.starred += u64::from(starred);
+    }
+    answer
+}
+
+/// Writes, then blanks the columns of one item.
+fn item_blank(case: &Writing, buffer: &mut [u8], item: usize) -> Answer {
+    let answer = Reference.write(case, buffer);
+    if let Some(placement) = traced(case).and_then(|traced| traced.placements.get(item).cloned()) {
+        buffer[placement.span.bytes(case.width as usize)].fill(b' ');
     }
     answer
 }

@@ -5,7 +5,7 @@ use std::fmt;
 
 /// Refusal numbers run from 1 to 13; 0 is accepted.
 const NUMBERS: usize = 14;
-/// A refusal is to be reached so often.
+/// A refusal, and writings of many items, are to be reached so often.
 const ENOUGH: usize = 100;
 
 #[derive(Clone, Copy, Debug, PartialEq, Eq)]
@@ -29,12 +29,20 @@ const CALLS: [(Call, &str); 7] = [
     (Call::HostCheck, "host check"),
 ];
 
+/// Items that cover columns are placed in parts: so many in one where the list is short, or long.
+const SHORT_LIST: usize = 8;
+const SMALL_PART: usize = 16;
+const PART: usize = 80;
+
 #[derive(Default)]
 pub struct Tally {
     counts: [[usize; NUMBERS]; CALLS.len()],
     read_back: usize,
     refused_for_stars: usize,
     covered_twice: usize,
+    full_parts: usize,
+    several_small_parts: usize,
+    several_parts: usize,
 }
 
 impl Tally {
@@ -48,6 +56,15 @@ impl Tally {
             Outcome::RefusedForStars => self.refused_for_stars += 1,
             Outcome::CoveredTwice => self.covered_twice += 1,
         }
+    }
+
+    /// Counts an accepted writing by how many items cover columns, and how many elements it has.
+    pub fn count_items(&mut self, items: usize, elements: usize) {
+        let short = elements <= SHORT_LIST;
+        let part = if short { SMALL_PART } else { PART };
+        self.full_parts += usize::from(items > 0 && items % part == 0);
+        self.several_small_parts += usize::from(short && items > part);
+        self.several_parts += usize::from(!short && items > part);
     }
 
     fn of(&self, call: Call, number: usize) -> usize {
@@ -69,6 +86,11 @@ impl Tally {
             require("check", number, self.of(Call::Check, number));
         }
         require("list text", 6, self.of(Call::ListText, 6));
+        for (name, count) in self.parts() {
+            if count < ENOUGH {
+                found.push(format!("{name}: {count}, fewer than {ENOUGH}"));
+            }
+        }
         for call in [Call::Write, Call::Read] {
             let all: usize = self.counts[call as usize].iter().sum();
             if self.of(call, 0) * 4 < all {
@@ -76,6 +98,14 @@ impl Tally {
             }
         }
         found
+    }
+
+    fn parts(&self) -> [(&'static str, usize); 3] {
+        [
+            ("exactly full parts", self.full_parts),
+            ("more than a part, a short list", self.several_small_parts),
+            ("more than a part, a long list", self.several_parts),
+        ]
     }
 }
 
@@ -99,6 +129,8 @@ impl fmt::Display for Tally {
             f,
             "\naccepted writings: {} read back, {} refused for stars, {} covering a column twice",
             self.read_back, self.refused_for_stars, self.covered_twice
-        )
+        )?;
+        write!(f, "\nitems that cover columns:")?;
+        self.parts().iter().try_for_each(|(name, count)| write!(f, " {name} {count};"))
     }
 }
