@@ -59,7 +59,8 @@ fn one_byte_items(length: usize) -> Sheet {
     Sheet { width: 64, records: 64, format, text: "A X\n".repeat(64) }
 }
 
-/// Formats of at most 64 bytes and of at most 256 have arrays of their own; so do runs of at most 64 items and of at most 512.
+/// Formats of at most 64 bytes that meet at most 64 items have small arrays, all others the largest; in the format check those of at
+/// most 256 bytes have arrays of their own too.
 fn lengths() -> Vec<Input> {
     vec![
         small().input("small format", 0),
@@ -68,8 +69,8 @@ fn lengths() -> Vec<Input> {
         one_byte_items(256).input("256 bytes of one-byte items", 0),
         one_byte_items(258).input("258 bytes of one-byte items", 0),
         one_byte_items(1024).input("1,024 bytes of one-byte items", 0),
-        Sheet { format: "(8(I1,63(T1)))".to_string(), ..records() }.input("512 items by repeats", 0),
-        Sheet { format: "(8(I1,63(T1)),T1)".to_string(), ..records() }.input("513 items by repeats", 0),
+        Sheet { format: "(8(I1,7(T1)))".to_string(), ..records() }.input("64 items by repeats", 0),
+        Sheet { format: "(8(I1,7(T1)),T1)".to_string(), ..records() }.input("65 items by repeats", 0),
         slashes().input("1,023 bytes of slashes", 0),
         short_literals().input("1,024 bytes of literals of one character", 0),
         long_literals().input("1,024 bytes of literals of 251 characters", 0),

@@ -79,7 +79,8 @@ impl<'a, C: Calls> Harness<'a, C> {
         unchanged("write", case, actual, &case.buffer, &buffer)?;
         if actual.number == 0 {
             let told = |what| difference("stars and reading back", case, what, Bytes(&buffer));
-            let traced = readback::traced(case, &buffer).map_err(told)?;
+            let traced = readback::traced(case);
+            let traced = traced.map_err(|refusal| told(format!("accepted, where the walk meets {refusal:?}")))?;
             self.tally.count_items(traced.placements.len(), case.count as usize);
             let outcome = readback::check(&mut self.random, self.calls, case, actual, &buffer, &traced);
             self.tally.count_outcome(outcome.map_err(told)?);

@@ -16,11 +16,10 @@ pub enum Outcome {
     CoveredTwice,
 }
 
-/// The trace of an accepted writing.
-pub fn traced(case: &Writing, buffer: &[u8]) -> Result<Trace, String> {
-    let room = buffer.len() / case.width as usize;
+/// The trace of a writing.
+pub fn traced(case: &Writing) -> Result<Trace, Refusal> {
+    let room = case.buffer.len() / case.width.max(1) as usize;
     trace(case.width, &case.format, &case.elements, case.count, &case.area, room)
-        .map_err(|refusal| format!("accepted, where the walk meets {refusal:?}"))
 }
 
 /// Checks 'Stars and reading back' on an accepted writing; `buffer` is as the writing left it.

@@ -3,9 +3,10 @@
 
 use crate::calls::{Answer, Calls, List, Reference, SHEET_OUTPUT};
 use crate::cases::{texts_length, Reading, Writing};
+use crate::readback::traced;
 use reference::format::Field;
 use reference::list::LARGEST;
-use reference::trace::{fields_met, trace, Content, Placement, Shown, Trace};
+use reference::trace::{fields_met, Content, Placement, Shown};
 use reference::Value;
 
 /// The calls, of which those with the slip are replaced.
@@ -94,11 +95,6 @@ pub const SLIPS: &[Slip] = &[
     Slip { name: "host's check gives 1", host_check: |format| Reference.host_check(format).max(-1), ..RIGHT },
 ];
 
-fn traced(case: &Writing) -> Option<Trace> {
-    let room = case.buffer.len() / case.width.max(1) as usize;
-    trace(case.width, &case.format, &case.elements, case.count, &case.area, room).ok()
-}
-
 /// Writes other values for some elements, if the writing is accepted.
 fn with_values(case: &Writing, buffer: &mut [u8], other: impl Fn(&Content) -> Option<Value>) -> Answer {
     let mut changed = case.clone();
@@ -125,7 +121,7 @@ fn patched(case: &Writing, buffer: &mut [u8], patch: impl Fn(&Placement, &mut [u
 /// Writes, then blanks the columns of one item.
 fn item_blank(case: &Writing, buffer: &mut [u8], item: usize) -> Answer {
     let answer = Reference.write(case, buffer);
-    if let Some(placement) = traced(case).and_then(|traced| traced.placements.get(item).cloned()) {
+    if let Some(placement) = traced(case).ok().and_then(|traced| traced.placements.get(item).cloned()) {
         buffer[placement.span.bytes(case.width as usize)].fill(b' ');
     }
     answer
