@@ -36,14 +36,23 @@ impl Case {
 }
 
 pub fn all() -> Vec<Case> {
-    vec![small(), full(), mixed(), nests(), check("check short", short_format()), check("check long", long_format())]
+    vec![
+        small(),
+        full(),
+        integers(),
+        texts(),
+        mixed(),
+        nests(),
+        check("check short", short_format()),
+        check("check long", long_format()),
+    ]
 }
 
-/// The sample sheet, with a decimal that binary holds exactly.
+/// The sample sheet but for its decimal: -1255/1000 is none that binary holds exactly, this is.
 fn small() -> Case {
     let mut list = Elements::new();
     list.integer(7);
-    list.decimal(-13125, 4);
+    list.decimal(-128_125, 5);
     list.logical(true);
     list.text(b"FOH");
     sheet("small", "SMALL", 20, "(I4,2X,F6.2,1X,L1,1X,A3)", list)
@@ -55,6 +64,36 @@ fn full() -> Case {
         list.decimal(thirty_seconds(index, 99_000), 5);
     }
     sheet("full", "FULL", 80, "(8F10.3)", list)
+}
+
+/// Integers of 1 to 9 digits by turns, of either sign.
+fn integers() -> Case {
+    let mut list = Elements::new();
+    for index in 0..64 {
+        list.integer(of_digits(1 + index as u32 % 9, index));
+    }
+    sheet("integers", "INTS", 80, "(8I10)", list)
+}
+
+/// An integer of so many digits, negative at every second index. Nine digits are within INTEGER*4, and with a sign fill 10 columns.
+fn of_digits(digits: u32, index: i64) -> i64 {
+    let least = 10i64.pow(digits - 1);
+    let n = least + index * 7_368_787 % (9 * least);
+    if index % 2 == 1 {
+        -n
+    } else {
+        n
+    }
+}
+
+/// Logicals and texts by turns, the texts as long as CHARACTER*4.
+fn texts() -> Case {
+    let mut list = Elements::new();
+    for index in 0..32u8 {
+        list.logical(index % 3 == 0);
+        list.text(&[b'A' + index % 26, b'N', b'0' + index % 10, b'S']);
+    }
+    sheet("texts", "TEXTS", 80, "(8(L4,A6))", list)
 }
 
 fn mixed() -> Case {

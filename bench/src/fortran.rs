@@ -1,6 +1,7 @@
 //! `sheets.f`, compiled to a shared library by each FORTRAN compiler.
 
 use std::ffi::{c_char, c_int, c_void, CStr, CString};
+use std::hint::black_box;
 use std::path::Path;
 
 use crate::cases::{Act, Case};
@@ -18,9 +19,8 @@ extern "C" {
     fn dlerror() -> *const c_char;
 }
 
-/// M, FMT, IV, DV, LV, TV, REC and the lengths of FMT, TV and REC.
-type Subroutine =
-    unsafe extern "C" fn(*const i32, *const u8, *mut i32, *mut f64, *mut i32, *mut u8, *mut u8, usize, usize, usize);
+/// FMT, IV, DV, LV, TV, REC and the lengths of FMT, TV and REC.
+type Subroutine = unsafe extern "C" fn(*const u8, *mut i32, *mut f64, *mut i32, *mut u8, *mut u8, usize, usize, usize);
 
 pub struct Fortran {
     name: String,
@@ -121,22 +121,24 @@ struct Statements<'a> {
 
 impl Work for Statements<'_> {
     fn repeat(&mut self, times: usize) {
-        let times = i32::try_from(times).expect("not so many times");
-        let Arrays { integers, doubles, logicals, texts } = &mut self.arrays;
-        // SAFETY: the arrays are as long as sheets.f has them, the records as many as the case has.
-        unsafe {
-            (self.subroutine)(
-                &times,
-                self.case.format.as_ptr(),
-                integers.as_mut_ptr(),
-                doubles.as_mut_ptr(),
-                logicals.as_mut_ptr(),
-                texts.as_mut_ptr(),
-                self.records.as_mut_ptr(),
-                self.case.format.len(),
-                TEXT,
-                self.case.width,
-            );
+        for _ in 0..times {
+            let Case { width, format, .. } = black_box(self.case);
+            let Statements { subroutine, arrays, records, .. } = black_box(&mut *self);
+            let Arrays { integers, doubles, logicals, texts } = arrays;
+            // SAFETY: the arrays are as long as sheets.f has them, the records as many as the case has.
+            unsafe {
+                subroutine(
+                    format.as_ptr(),
+                    integers.as_mut_ptr(),
+                    doubles.as_mut_ptr(),
+                    logicals.as_mut_ptr(),
+                    texts.as_mut_ptr(),
+                    records.as_mut_ptr(),
+                    format.len(),
+                    TEXT,
+                    *width,
+                );
+            }
         }
     }
 

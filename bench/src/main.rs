@@ -101,7 +101,7 @@ fn right(cases: &[Case], contestants: &[Box<dyn Contestant>]) -> ExitCode {
     for (case, act) in jobs(cases) {
         for contestant in contestants {
             let Some(mut work) = contestant.ready(case, act) else { continue };
-            // As many times as there are slots, since a proved reading looks at one after the other.
+            // As many times as a list has elements at most, since a proved reading hands on one after the other.
             work.repeat(64);
             done += 1;
             if !work.is_right() {

@@ -9,10 +9,10 @@ use crate::stack;
 use crate::stack_inputs::{self, Input};
 
 /// The most bytes of stack that a public call takes, C calls included. A figure also has what stands between the painter and the
-/// call. Of that only lists are taken off which `bench_calls` keeps and no call has: the list that it makes, and for `read` a copy
-/// of the list read, of which it looks at one element. The copy of a list handed over and the list given count as the call's. For
-/// `read_list` two lists of `test_calls`, and the numbers of one, are not taken off. The other calls have nothing of such a size
-/// before them. `write_list_text` has no column: `trimsheet_write` calls it, and nothing else of any size.
+/// call. Of that only the list is taken off which `bench_calls` makes and no call has; its copy, which is handed over, and the list
+/// given count as the call's. For `read_list` two lists of `test_calls`, and the numbers of one, are not taken off. The other calls
+/// have nothing of such a size before them. `write_list_text` has no column: `trimsheet_write` calls it, and nothing else of any
+/// size.
 pub const LIMIT: usize = 32 * 1024;
 
 /// A list: 64 elements of 24 bytes, and their count.
@@ -25,7 +25,7 @@ struct Call {
 
 const CALLS: [Call; 7] = [
     Call { name: "write", depth: |input| of_act(input, Act::Write) - LIST },
-    Call { name: "read", depth: |input| of_act(input, Act::Read) - 2 * LIST },
+    Call { name: "read", depth: |input| of_act(input, Act::Read) - LIST },
     Call { name: "check", depth: |input| of_act(input, Act::Check) },
     Call { name: "read_list", depth: of_read_list },
     Call { name: "sheet", depth: of_sheet },

@@ -1,63 +1,38 @@
-// The calls that are measured.
+// The calls that are measured, each once.
+use crate::ListSlot;
+use crate::lists::listed;
 use format_check::check::check;
 use list_elements::List;
-use sheet_read::SheetRead;
 use sheet_read::read::read;
-use sheet_walk::{Counts, Refusal};
 use sheet_write::write::write;
-use test_calls::lists::list_from;
-use test_calls::slots::Slot;
 
-// Whether so many records were written.
-fn reaches(answer: Result<Counts, Refusal>, wanted: usize) -> bool {
-    matches!(answer, Ok(counts) if counts.records == wanted)
-}
-
-// Writes a list so many times; how many times it filled so many records.
+// Writes a list; how many records it filled, 0 where it is refused.
 pub fn bench_write(
-    times: usize,
     width: usize,
     format: &[u8],
-    shapes: &[usize],
-    numbers: &[i64],
-    count: usize,
+    slots: &[ListSlot],
     area: &[u8],
     buffer: &mut [u8],
-    wanted: usize,
 ) -> usize {
-    let list = list_from(shapes, numbers, count);
-    (0..times)
-        .filter(|_| reaches(write(width, format, list, area, buffer), wanted))
-        .count()
+    write(width, format, listed(slots), area, buffer).map_or(0, |counts| counts.records)
 }
 
-// Reads the elements wanted so many times; how many times the number of one element, another one each time, was that of
-// `expected`; where reading is refused it counts as 0. A loop, as a closure would have the list copied once more in each call:
-// some 350 instructions more for the smallest sheet.
+// Reads the elements wanted, into a list here; of it the element at this place, or none where it is refused. (One is enough, if it
+// is another one at each call, to have the compiler leave nothing out.)
 pub fn bench_read(
-    times: usize,
     width: usize,
     format: &[u8],
-    shapes: &[usize],
-    expected: &[i64; List::MOST],
-    count: usize,
+    wanted: &[ListSlot],
     area: &mut [u8],
     records: &[u8],
-) -> usize {
-    let list = list_from(shapes, expected, count);
-    let mut good = 0usize;
-    for done in 0..times {
-        let given = read(width, format, list, area, records);
-        let slot = done % List::MOST;
-        let number = |sheet: SheetRead| Slot::from(sheet.list.elements[slot].value).number;
-        if given.map_or(0, number) == expected[slot] {
-            good += 1;
-        }
-    }
-    good
+    place: usize,
+) -> ListSlot {
+    let slot = place % List::MOST;
+    let given = read(width, format, listed(wanted), area, records);
+    given.map_or(ListSlot::NONE, |sheet| sheet.list.elements[slot].into())
 }
 
-// Checks a format so many times; how many times it is accepted.
-pub fn bench_check(times: usize, format: &[u8]) -> usize {
-    (0..times).filter(|_| check(format).is_ok()).count()
+// Checks a format; whether it is accepted.
+pub fn bench_check(format: &[u8]) -> bool {
+    check(format).is_ok()
 }
