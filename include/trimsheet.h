@@ -1,32 +1,90 @@
-/* The console host's calls of the trim sheet library (libconsole.a). */
+/*
+ * Trim sheets by FORTRAN format: the calls for a console host, for C99, C11 and C++.
+ *
+ * Link with libconsole.a, which needs nothing but the C library: cc -I<this folder> host.c libconsole.a
+ *
+ * Threads. No global state and no heap: a call may be made from several threads at once, each on buffers of its own.
+ *
+ * Stack. On no input does a call take more than 32 KB: trimsheet_write up to 31,232 bytes, as measured, trimsheet_check up to
+ * 9,744; for a format of up to 64 bytes and 64 items met, repeats counted, 8 KB and 1 KB.
+ *
+ * Limits. A format has at most 1,024 bytes, groups to level 4, and meets at most 4,096 fields and other items, repeats counted,
+ * returns aside. A record is 1 to 255 columns wide; there are as many as the buffer holds. A list has at most 64 elements;
+ * integers and the units of decimals have a magnitude of at most 10^18 - 1, decimals 0 to 9 places, texts 1 to 64 bytes.
+ *
+ * List text. A line for each element, single blanks between its parts:
+ *
+ *     I n        the integer n
+ *     D u s      the decimal u / 10^s
+ *     L T        true; L F, false
+ *     A text     the text: the rest of the line, bytes 32 to 126
+ *
+ * n and u are 1 to 18 digits, after a - where they are below 0; s is one digit. Each line ends in a line feed, which the last
+ * line may lack. No text at all is the empty list.
+ */
 #ifndef TRIMSHEET_H
 #define TRIMSHEET_H
 
 #include <stddef.h>
 #include <stdint.h>
 
+/* The version of this header and of the archive beside it: 1.0.0, as 10000 * 1 + 100 * 0 + 0. */
+#define TRIMSHEET_VERSION 10000
+
 #ifdef __cplusplus
 extern "C" {
 #endif
 
+/* The numbers of refusals. A call that refuses answers the number negated. */
+enum trimsheet_refusal {
+    TRIMSHEET_RECORD_WIDTH = 1,   /* the width is not 1 to 255 */
+    TRIMSHEET_FORMAT_LENGTH = 2,  /* the format is over 1,024 bytes */
+    TRIMSHEET_FORMAT_GRAMMAR = 3, /* the format is not of the grammar */
+    TRIMSHEET_FORMAT_RANGE = 4,   /* a number of the format is out of its range */
+    TRIMSHEET_FORMAT_SIZE = 5,    /* the format's size is over 4,096 */
+    TRIMSHEET_ELEMENT = 6,        /* a line is no element, or an element is outside its limits; or there are over 64 */
+    TRIMSHEET_KIND = 7,           /* an element's kind does not suit its field */
+    TRIMSHEET_COLUMN = 8,         /* a field or literal passes the last column, X goes more than one past it, or T past it */
+    TRIMSHEET_NO_RECORD = 9,      /* the buffer holds no record, or none is left */
+    TRIMSHEET_NO_FIELD = 10,      /* elements are left, and the part of the format to return to has no field */
+    TRIMSHEET_TOO_LARGE = 11,     /* a decimal's units, rounded to the places of its field, are over 10^18 - 1 */
+    TRIMSHEET_FIELD_TEXT = 12,    /* in reading only, which has no call here: what stands in the columns is no such field */
+    TRIMSHEET_TEXT_AREA = 13      /* in reading only: the texts wanted are longer together than the text area */
+};
+
 /*
- * Pointers. Each pointer must not be null, also where the length after it is 0 (any address will do there), and must point to
- * at least as many bytes as that length says, at most 2^63 - 1, which can be read and, for `records`, written. `records` must
- * not overlap the other two. While a call runs, nothing else writes to any of these bytes, or reads those of `records`.
- *
- * Stack. On no input does a call take more than 32 KB: trimsheet_write up to 31,232 bytes, as measured, trimsheet_check up to
- * 9,744; for a format of up to 64 bytes and 64 items met, repeats counted, 8 KB and 1 KB.
+ * What libconsole.a exports. A host calls the functions below instead. Here no pointer may be null, also where the length after it
+ * is 0.
+ */
+int64_t trimsheet_write_slices(size_t width, const uint8_t *format, size_t format_len, const uint8_t *list_text,
+                               size_t list_text_len, uint8_t *records, size_t records_len);
+int64_t trimsheet_check_slice(const uint8_t *format, size_t format_len);
+
+/*
+ * Pointers. Each pointer points to at least as many bytes as the length after it says, at most 2^63 - 1, which can be read and, for
+ * `records`, written. Where that length is 0 the pointer may be anything, null too. `records` must not overlap the other two.
+ * While a call runs, nothing else writes to any of these bytes, or reads those of `records`. Nothing else is asked of a caller,
+ * and a call ends on every input.
  */
 
 /*
  * Writes the list of a list text under a format into records of `width` bytes, from the first byte of `records` on. Answers
  * the number of records written; or the number of the refusal, negated, and then no byte of `records` has changed.
  */
-int64_t trimsheet_write(size_t width, const uint8_t *format, size_t format_len, const uint8_t *list_text, size_t list_text_len,
-                        uint8_t *records, size_t records_len);
+static inline int64_t trimsheet_write(size_t width, const uint8_t *format, size_t format_len, const uint8_t *list_text,
+                                      size_t list_text_len, uint8_t *records, size_t records_len)
+{
+    uint8_t none[1] = {0};
+    return trimsheet_write_slices(width, format_len == 0 ? none : format, format_len, list_text_len == 0 ? none : list_text,
+                                  list_text_len, records_len == 0 ? none : records, records_len);
+}
 
 /* Checks a format. Answers 0 where it is accepted, or the number of the refusal, negated. */
-int64_t trimsheet_check(const uint8_t *format, size_t format_len);
+static inline int64_t trimsheet_check(const uint8_t *format, size_t format_len)
+{
+    uint8_t none[1] = {0};
+    return trimsheet_check_slice(format_len == 0 ? none : format, format_len);
+}
 
 #ifdef __cplusplus
 }

@@ -1,4 +1,5 @@
-// The console host's calls, exported to C: those of the crate console, with its promises.
+// The console host's calls, exported to C: those of the crate console, with its promises. `include/trimsheet.h` calls them by these
+// names, with an address for each slice: a slice's address is never null, also where it is empty.
 #![tactic(auto)]
 
 ghost use Rattle.std.specs.Prelude.{◌≡◌};
@@ -9,7 +10,7 @@ ghost use Rattle.console.specs.HostAnswers.{host_write_number, host_check_number
 
 // `console::trimsheet_write`.
 #[unsafe(no_mangle)]
-pub extern "C" fn trimsheet_write(
+pub extern "C" fn trimsheet_write_slices(
     width: usize,
     format: &[u8],
     text: &[u8],
@@ -23,7 +24,7 @@ pub extern "C" fn trimsheet_write(
 
 // `console::trimsheet_check`.
 #[unsafe(no_mangle)]
-pub extern "C" fn trimsheet_check(format: &[u8]) -> i64
+pub extern "C" fn trimsheet_check_slice(format: &[u8]) -> i64
     ensures { result ≡ host_check_number (answer (outcome format.now)) }
 {
     console::trimsheet_check(format)

@@ -111,7 +111,7 @@ pub fn sheet(input: &[u8], records: &mut [u8; crate::SHEET_RECORDS], output: &mu
 pub fn host_write(width: u64, format: &[u8], list_text: &[u8], buffer: &mut [u8]) -> i64 {
     // SAFETY: every pointer comes with the length of the slice it is taken from.
     unsafe {
-        calls::trimsheet_write(
+        calls::trimsheet_write_slices(
             width as usize,
             format.as_ptr(),
             format.len(),
@@ -126,5 +126,5 @@ pub fn host_write(width: u64, format: &[u8], list_text: &[u8], buffer: &mut [u8]
 /// 0, or the refusal's number negated.
 pub fn host_check(format: &[u8]) -> i64 {
     // SAFETY: the pointer comes with the length of the slice it is taken from.
-    unsafe { calls::trimsheet_check(format.as_ptr(), format.len()) }
+    unsafe { calls::trimsheet_check_slice(format.as_ptr(), format.len()) }
 }

@@ -51,7 +51,7 @@ extern "C" {
     pub fn test_record_buffer() -> usize;
     pub fn test_output() -> usize;
     pub fn test_sheet(input: *const u8, input_len: usize, records: *mut u8, output: *mut u8) -> usize;
-    pub fn trimsheet_write(
+    pub fn trimsheet_write_slices(
         width: usize,
         format: *const u8,
         format_len: usize,
@@ -60,5 +60,5 @@ extern "C" {
         records: *mut u8,
         records_len: usize,
     ) -> i64;
-    pub fn trimsheet_check(format: *const u8, format_len: usize) -> i64;
+    pub fn trimsheet_check_slice(format: *const u8, format_len: usize) -> i64;
 }
