@@ -1,28 +1,46 @@
-// The program: reads a sheet from standard input, and writes its records, or the refusal, to standard output.
+// The program: reads a sheet from standard input, and writes its records, or the refusal, to standard output. Where it cannot read
+// or cannot write, it says so on standard error, and ends with status 1; where it cannot read, it writes nothing.
 #![tactic(auto)]
 
-ghost use Rattle.std.specs.Prelude.{OnOk, IfSome};
-ghost use Rattle.std.specs.Io.KnownBytes.{Appends};
-ghost use Rattle.sheet_text.specs.SheetOutput.{sheet_output};
+mod failure;
 
+ghost use Rattle.std.specs.Prelude.{OnOk, IfErr, IfSome};
+ghost use Rattle.std.specs.Io.KnownBytes.{Appends, Keeps};
+ghost use Rattle.sheet_text.specs.SheetOutput.{sheet_output};
+ghost use Rattle.trimsheet.specs.Failures.{IsRead};
+
+use crate::failure::Failure;
 use input_bytes::read_full;
 use sheet_text::sheet::sheet;
 use sheet_text::{INPUT, OUTPUT, RECORD_BUFFER};
-use std::io;
 use std::io::{Read, Write};
+use std::process::ExitCode;
 
 // Writes the output for the whole of an input, of which it reads the first INPUT bytes.
-fn run<R: Read, W: Write>(reader: &mut R, writer: &mut W) -> io::Result<()>
-    ensures { OnOk result (IfSome (R.remaining reader.old) (λ input. Appends (W.contents writer.old) (W.contents writer.new) (sheet_output input))) }
+fn run<R: Read, W: Write>(reader: &mut R, writer: &mut W) -> Result<(), Failure>
+    ensures output { OnOk result (IfSome (R.remaining reader.old) (λ input. Appends (W.contents writer.old) (W.contents writer.new) (sheet_output input))) }
+    ensures unread { IfErr result (λ why. IsRead why → Keeps (W.contents writer.old) (W.contents writer.new)) }
 {
     let mut input = [0u8; INPUT];
     let mut records = [0u8; RECORD_BUFFER];
     let mut output = [0u8; OUTPUT];
-    let n = read_full(reader, &mut input)?;
+    let n = match read_full(reader, &mut input) {
+        Ok(n) => n,
+        Err(why) => return Err(Failure::Read(why)),
+    };
     let len = sheet(&input[..n], &mut records, &mut output);
-    writer.write_all(&output[..len])
+    match writer.write_all(&output[..len]) {
+        Ok(()) => Ok(()),
+        Err(why) => Err(Failure::Write(why)),
+    }
 }
 
-fn main(rt: HostRuntime) -> io::Result<()> {
-    run(&mut rt.stdin(), &mut rt.stdout())
+fn main(rt: HostRuntime) -> ExitCode {
+    match run(&mut rt.stdin(), &mut rt.stdout()) {
+        Ok(()) => ExitCode::SUCCESS,
+        Err(why) => {
+            let _ = eprintln!(rt; "trimsheet: {why}");
+            ExitCode::FAILURE
+        }
+    }
 }

@@ -1,11 +1,10 @@
-use Rattle.std.proofs.Common.{◌⊎◌, ⊎_elim, arith, take_all, append-nil, Option, Some, None, inl, inr, ◌≡◌, ℕ, ◌+◌, ◌-◌, ◌≤◌, List, ◌++◌, rules, length, take, drop, sym, ap, ◌∙◌, subst, le_refl, drop_at, length-take-le}
+use Rattle.std.proofs.Common.{◌⊎◌, ⊎_elim, arith, take_all, append-nil, Option, Some, None, inl, inr, ◌≡◌, ℕ, ◌+◌, ◌-◌, ◌≤◌, List, ◌++◌, rules, length, take, sym, ap, ◌∙◌, subst, length-take-le}
 use Rattle.buffer.proofs.Splicing.{front_and_part}
 use Rattle.std.specs.Option.{IfSome}
 use Rattle.std.proofs.lemmas.List.{take_at}
 use Rattle.std.proofs.KnownBytes.{Consumes-trans}
 use Rattle.std.specs.Io.KnownBytes.{Consumes, IsAtEnd}
-use borrow.Rule.Slice.PartMut.{put_mid, post_of}
-use lib.Seq.{take-add, take-append-le}
+use borrow.Rule.Slice.PartMut.{put_mid}
 use Rattle.input_bytes.proofs.read_full.Goals as goal
 
 -- what a reader gave that filled the buffer, or that is at its end
@@ -22,7 +21,7 @@ first_bytes (Some x) (Some y) n buffer within given all =
 
 pub loop-done-preserved : goal.loop-done-preserved
 loop-done-preserved g c =
-    let same = front_and_part c.loop-done.done (length c.loop-done.buffer - c.loop-done.done) c.in_ok-n.n c.loop-done.buffer c.read.new.buf
+    let same = front_and_part c.loop-done.done (length c.loop-done.buffer - c.loop-done.done) c.in_ok-n.n c.loop-done.buffer c.read_part.new.part
     c.loop-done.invariant.within c.in_ok-n.ensures.bound.0 in
     record {
       within = search rules;
@@ -32,12 +31,12 @@ loop-done-preserved g c =
 pub returns-then-n-eq0-clause-first : goal.returns-then-n-eq0-clause-first
 returns-then-n-eq0-clause-first g c =
     let at = c.loop-done.done in
-    let new = put_mid at (length c.loop-done.buffer - at) c.loop-done.buffer c.read.new.buf in
-    let same = front_and_part at (length c.loop-done.buffer - at) c.in_ok-n.n c.loop-done.buffer c.read.new.buf
+    let new = put_mid at (length c.loop-done.buffer - at) c.loop-done.buffer c.read_part.new.part in
+    let same = front_and_part at (length c.loop-done.buffer - at) c.in_ok-n.n c.loop-done.buffer c.read_part.new.part
     c.loop-done.invariant.within c.in_ok-n.ensures.bound.0 in
     let all = subst (Consumes _ _) same (Consumes-trans _ _ _ _ _ c.loop-done.invariant.given c.in_ok-n.ensures.bytes.0) in
     let none : at + c.in_ok-n.n ≡ at = omega (arith, c.if-n-eq0.true) in
-    first_bytes _ _ at new (search rules) (subst (λ k. Consumes (g.R.Read.remaining c.args.reader.now) (g.R.Read.remaining c.read.new.self) (take k new)) none all) (inr (c.in_ok-n.ensures.bytes.1 c.if-n-eq0.true (search rules)))
+    first_bytes _ _ at new (search rules) (subst (λ k. Consumes (g.R.Read.remaining c.args.reader.now) (g.R.Read.remaining c.read_part.new.reader) (take k new)) none all) (inr (c.in_ok-n.ensures.bytes.1 c.if-n-eq0.true (search rules)))
 
 pub returns-clause-first : goal.returns-clause-first
 returns-clause-first g c = first_bytes _ _ _ _ c.loop-done.invariant.within c.loop-done.invariant.given (inl c.loop-done-test.false)

@@ -1,4 +1,4 @@
-use Rattle.std.proofs.Common.{OnOk, IfSome, Option, Result, Some, None, Ok, Err, ◌≡◌, ℕ, List, length, take, ap, ◌∙◌, sym, subst, rules}
+use Rattle.std.proofs.Common.{IfSome, Option, Some, None, ◌≡◌, ℕ, List, length, take, ap, ◌∙◌, sym, subst, rules}
 use Rattle.std.proofs.lemmas.List.{take_at}
 use Rattle.std.specs.Io.KnownBytes.{Appends}
 use Rattle.buffer.specs.Splice.{splice}
@@ -16,15 +16,14 @@ some_known None f p = tt
 some_known (Some xs) f p = f xs p
 
 -- what was written is what the known bytes give
-written : {T E : Type 0} (r : Result T E) (a old new : Option (List ℕ)) (bs : List ℕ) (f : List ℕ → List ℕ) → OnOk r (Appends old new bs)
-    → IfSome a (λ xs. bs ≡ f xs) → OnOk r (IfSome a (λ xs. Appends old new (f xs)))
-written (Ok t) None old new bs f h e = tt
-written (Ok t) (Some xs) old new bs f h e = subst (Appends old new) e h
-written (Err x) a old new bs f h e = tt
+written : (a old new : Option (List ℕ)) (bs : List ℕ) (f : List ℕ → List ℕ) → Appends old new bs
+    → IfSome a (λ xs. bs ≡ f xs) → IfSome a (λ xs. Appends old new (f xs))
+written None old new bs f h e = tt
+written (Some xs) old new bs f h e = subst (Appends old new) e h
 
-pub returns : goal.returns
-returns g c =
+pub returns-in-Ok-write_all-clause-output : goal.returns-in-Ok-write_all-clause-output
+returns-in-Ok-write_all-clause-output g c =
     let front = take_splice _ _ _ _ c.sheet-len.ensures.output c.sheet-len.ensures.length in
     let long : length c.read_full.new.buffer ≡ 8192 = search rules in
-    written c.write_all.result (g.R.Read.remaining c.args.reader.now) _ _ _ sheet_output c.write_all.ensures.bytes
-    (some_known (g.R.Read.remaining c.args.reader.now) (λ xs h. front ∙ c.sheet-len.ensures.whole xs (h ∙ ap (λ k. take k xs) long)) c.in_ok-n.ensures.first)
+    written (g.R.Read.remaining c.args.reader.now) _ _ _ sheet_output c.in-Ok-write_all.ensures.bytes
+    (some_known (g.R.Read.remaining c.args.reader.now) (λ xs h. front ∙ c.sheet-len.ensures.whole xs (h ∙ ap (λ k. take k xs) long)) c.in-Ok.ensures.first)
