@@ -6,7 +6,7 @@ use std::io;
 use std::io::{BufRead, BufReader, Read};
 
 // How many bytes of the input are looked at, at most.
-const MOST_INPUT: u64 = 65_536;
+const MOST_INPUT: u64 = 1_048_576;
 
 // All lines of the standard input, without their line feeds. They need be no text.
 pub fn input_lines(rt: &(impl Input + AllocGlobal)) -> io::Result<Vec<Vec<u8>>> {
