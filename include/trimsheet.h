@@ -1,16 +1,21 @@
 /*
  * Trim sheets by FORTRAN format: the calls for a console host, for C99, C11 and C++.
  *
- * Link with libconsole.a, which needs nothing but the C library: cc -I<this folder> host.c libconsole.a
+ * Link with libconsole.a: cc -I<this folder> host.c libconsole.a. It is for x86-64 Linux, on processors of level x86-64-v2 or later, and
+ * needs memcpy, memmove and memset of the C library, and nothing else.
  *
- * Threads. No global state and no heap: a call may be made from several threads at once, each on buffers of its own.
+ * Threads. No global state and no heap: calls may be made from several threads at once on separate buffers, each with `records` of
+ * its own. A format or a list text may be shared, as long as nothing writes to it.
  *
- * Stack. On no input does a call take more than 32 KB: trimsheet_write up to 31,232 bytes, as measured, trimsheet_check up to
- * 9,744; for a format of up to 64 bytes and 64 items met, repeats counted, 8 KB and 1 KB.
+ * Stack. As measured, on 34 inputs, small and largest: no call takes more than 32 KB (32,768 bytes), trimsheet_write_slices up to 31,232
+ * bytes, trimsheet_check_slice up to 9,744; under a format of up to 64 bytes and 64 items met, repeats counted, 8 KB and 1 KB. The inline
+ * functions below add some 0.1 KB. Where the C library is linked dynamically, the first call has its functions bound, which takes some
+ * 3 KB more under such short formats.
  *
- * Limits. A format has at most 1,024 bytes, groups to level 4, and meets at most 4,096 fields and other items, repeats counted,
- * returns aside. A record is 1 to 255 columns wide; there are as many as the buffer holds. A list has at most 64 elements;
- * integers and the units of decimals have a magnitude of at most 10^18 - 1, decimals 0 to 9 places, texts 1 to 64 bytes.
+ * Limits. A format has at most 1,024 bytes, groups to level 4, and at most 4,096 fields and other items, repeats counted (its size). A
+ * record is 1 to 255 columns wide; there are as many as the buffer holds. A list has at most 64 elements; integers and the units of
+ * decimals have a magnitude of at most 10^18 - 1, decimals 0 to 9 places, texts 1 to 64 bytes. What a format is, and which of several
+ * refusals comes first, stands in docs/RULES.md ('The format', 'Checks by place').
  *
  * List text. A line for each element, single blanks between its parts:
  *
@@ -19,8 +24,9 @@
  *     L T        true; L F, false
  *     A text     the text: the rest of the line, bytes 32 to 126
  *
- * n and u are 1 to 18 digits, after a - where they are below 0; s is one digit. Each line ends in a line feed, which the last
- * line may lack. No text at all is the empty list.
+ * n and u have an optional - and 1 to 18 digits, no +; leading zeros count as digits, and -0 is 0. s is one digit. Each line ends in a
+ * line feed, which the last line may lack. A carriage return is a byte like others, so a line that ends in both is refused. An empty line
+ * is no element, at the end too; no bytes at all are the empty list.
  */
 #ifndef TRIMSHEET_H
 #define TRIMSHEET_H
@@ -28,7 +34,7 @@
 #include <stddef.h>
 #include <stdint.h>
 
-/* The version of this header and of the archive beside it: 1.0.0, as 10000 * 1 + 100 * 0 + 0. */
+/* The version of this header: 1.0.0, as 10000 * 1 + 100 * 0 + 0. The archive has none in it: take both from one checkout. */
 #define TRIMSHEET_VERSION 10000
 
 #ifdef __cplusplus
@@ -41,7 +47,7 @@ enum trimsheet_refusal {
     TRIMSHEET_FORMAT_LENGTH = 2,  /* the format is over 1,024 bytes */
     TRIMSHEET_FORMAT_GRAMMAR = 3, /* the format is not of the grammar */
     TRIMSHEET_FORMAT_RANGE = 4,   /* a number of the format is out of its range */
-    TRIMSHEET_FORMAT_SIZE = 5,    /* the format's size is over 4,096 */
+    TRIMSHEET_FORMAT_SIZE = 5,    /* the format's size is over 4,096 (Limits, above) */
     TRIMSHEET_ELEMENT = 6,        /* a line is no element, or an element is outside its limits; or there are over 64 */
     TRIMSHEET_KIND = 7,           /* an element's kind does not suit its field */
     TRIMSHEET_COLUMN = 8,         /* a field or literal passes the last column, X goes more than one past it, or T past it */
@@ -53,8 +59,8 @@ enum trimsheet_refusal {
 };
 
 /*
- * What libconsole.a exports. A host calls the functions below instead. Here no pointer may be null, also where the length after it
- * is 0.
+ * What libconsole.a exports. A host in C or C++ calls the functions below instead; one in another language calls these, and gives each
+ * pointer an address: here none may be null, not even where the length after it is 0.
  */
 int64_t trimsheet_write_slices(size_t width, const uint8_t *format, size_t format_len, const uint8_t *list_text,
                                size_t list_text_len, uint8_t *records, size_t records_len);
@@ -63,8 +69,8 @@ int64_t trimsheet_check_slice(const uint8_t *format, size_t format_len);
 /*
  * Pointers. Each pointer points to at least as many bytes as the length after it says, at most 2^63 - 1, which can be read and, for
  * `records`, written. Where that length is 0 the pointer may be anything, null too. `records` must not overlap the other two.
- * While a call runs, nothing else writes to any of these bytes, or reads those of `records`. Nothing else is asked of a caller,
- * and a call ends on every input.
+ * While a call runs, nothing else writes to any of these bytes, or reads those of `records`. Beyond that and the stack nothing is
+ * asked of a caller, and a call ends on every input.
  */
 
 /*
