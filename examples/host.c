@@ -9,9 +9,9 @@ enum { WIDTH = 20, RECORDS = 4 };
 static const uint8_t *bytes(const char *text) { return (const uint8_t *)text; }
 
 /* A refusal in words. */
-static const char *words(int64_t answer)
+static const char *words(enum trimsheet_refusal why)
 {
-    switch ((enum trimsheet_refusal)-answer) {
+    switch (why) {
     case TRIMSHEET_RECORD_WIDTH: return "no such record width";
     case TRIMSHEET_FORMAT_LENGTH: return "the format is too long";
     case TRIMSHEET_FORMAT_GRAMMAR: return "the format is not well formed";
@@ -36,7 +36,7 @@ static void check(const char *format)
     if (answer == 0)
         printf("%s is accepted\n", format);
     else
-        printf("%s is refused with %d: %s\n", format, (int)-answer, words(answer));
+        printf("%s is refused with %d: %s\n", format, (int)-answer, words(trimsheet_refusal_of(answer)));
 }
 
 /* A sheet of records of 20 columns. A list text may be NULL where it has no byte. */
@@ -47,7 +47,7 @@ static void write_sheet(const char *format, const char *list_text)
     int64_t answer = trimsheet_write(WIDTH, bytes(format), strlen(format), bytes(list_text), list_text_len, records,
                                      sizeof records);
     if (answer < 0) {
-        printf("refused with %d: %s\n", (int)-answer, words(answer));
+        printf("refused with %d: %s\n", (int)-answer, words(trimsheet_refusal_of(answer)));
         return;
     }
     for (int64_t i = 0; i < answer; i++)

@@ -41,7 +41,10 @@
 extern "C" {
 #endif
 
-/* The numbers of refusals. A call that refuses answers the number negated. */
+/*
+ * The numbers of refusals. A call that refuses answers the number negated: compare `answer == -TRIMSHEET_KIND`, or take what
+ * trimsheet_refusal_of gives. (A variable of this type may be unsigned in C, so it is not to be negated.)
+ */
 enum trimsheet_refusal {
     TRIMSHEET_RECORD_WIDTH = 1,   /* the width is not 1 to 255 */
     TRIMSHEET_FORMAT_LENGTH = 2,  /* the format is over 1,024 bytes */
@@ -57,6 +60,9 @@ enum trimsheet_refusal {
     TRIMSHEET_FIELD_TEXT = 12,    /* in reading only, which has no call here: what stands in the columns is no such field */
     TRIMSHEET_TEXT_AREA = 13      /* in reading only: the texts wanted are longer together than the text area */
 };
+
+/* The refusal of an answer below 0. */
+static inline enum trimsheet_refusal trimsheet_refusal_of(int64_t answer) { return (enum trimsheet_refusal)-answer; }
 
 /*
  * What libconsole.a exports. A host in C or C++ calls the functions below instead; one in another language calls these, and gives each

@@ -4,22 +4,21 @@
 
 mod failure;
 
-ghost use Rattle.std.specs.Prelude.{OnOk, IfErr, IfSome};
-ghost use Rattle.std.specs.Io.KnownBytes.{Appends, Keeps};
-ghost use Rattle.sheet_text.specs.SheetOutput.{sheet_output};
-ghost use Rattle.trimsheet.specs.Failures.{IsRead};
+ghost use Rattle.std.specs.Prelude.{OnOk, IfErr};
+ghost use Rattle.trimsheet.specs.Runs.{Answered, Failed};
 
 use crate::failure::Failure;
-use input_bytes::read_full;
 use sheet_text::sheet::sheet;
 use sheet_text::{INPUT, OUTPUT, RECORD_BUFFER};
 use std::io::{Read, Write};
 use std::process::ExitCode;
+use streams::reading::read_full;
+use streams::writing::write_full;
 
 // Writes the output for the whole of an input, of which it reads the first INPUT bytes.
 fn run<R: Read, W: Write>(reader: &mut R, writer: &mut W) -> Result<(), Failure>
-    ensures output { OnOk result (IfSome (R.remaining reader.old) (λ input. Appends (W.contents writer.old) (W.contents writer.new) (sheet_output input))) }
-    ensures unread { IfErr result (λ why. IsRead why → Keeps (W.contents writer.old) (W.contents writer.new)) }
+    ensures answered { OnOk result (Answered INPUT (R.remaining reader.old) (R.remaining reader.new) (W.contents writer.old) (W.contents writer.new)) }
+    ensures failed { IfErr result (λ why. Failed why INPUT (R.remaining reader.old) (R.remaining reader.new) (W.contents writer.old) (W.contents writer.new)) }
 {
     let mut input = [0u8; INPUT];
     let mut records = [0u8; RECORD_BUFFER];
@@ -29,7 +28,7 @@ fn run<R: Read, W: Write>(reader: &mut R, writer: &mut W) -> Result<(), Failure>
         Err(why) => return Err(Failure::Read(why)),
     };
     let len = sheet(&input[..n], &mut records, &mut output);
-    match writer.write_all(&output[..len]) {
+    match write_full(writer, &output[..len]) {
         Ok(()) => Ok(()),
         Err(why) => Err(Failure::Write(why)),
     }

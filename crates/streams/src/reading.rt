@@ -1,15 +1,11 @@
-// What `trimsheet` reads of its input, into a buffer of its own: it has fixed memory, so no `read_to_end` into a `Vec`.
-#![tactic(auto)]
-
+// Reading up to the end of a buffer or of the input.
 ghost use Rattle.std.specs.Prelude.{◌≡◌, ◌≤◌, length, take, IfOk, IfSome};
 ghost use Rattle.std.specs.Io.KnownBytes.{Consumes, ReadConsumes};
 ghost use Rattle.std.specs.Io.{ReadsAtMost};
 
+use crate::RETRIES;
 use std::io;
 use std::io::{ErrorKind, Read};
-
-// How many reads in a row are tried again that a signal interrupted.
-pub const RETRIES: usize = 1000;
 
 // One read; where a signal interrupts it, the next one that is not interrupted, or the last one that is tried.
 fn read_part<R: Read>(reader: &mut R, part: &mut [u8]) -> io::Result<usize>
@@ -48,7 +44,8 @@ pub fn read_full<R: Read>(reader: &mut R, buffer: &mut [u8]) -> io::Result<usize
 mod tests {
     use super::*;
 
-    // So many reads are interrupted first; then as many give up to 4 bytes each, or none at the end, and the next one fails.
+    // So many reads are interrupted first; then as many give up to 4 bytes each, or none at the end. The next one fails, and those after
+    // it give none.
     #[derive(Drop)]
     struct Input<'a> {
         interrupted: usize,
@@ -63,7 +60,9 @@ mod tests {
                 return Err(ErrorKind::Interrupted.into());
             }
             if self.answered == 0 {
-                return Err(ErrorKind::WouldBlock.into());
+                self.answered = 1000;
+                self.bytes = &[];
+                return Err(ErrorKind::ConnectionReset.into());
             }
             self.answered -= 1;
             let most = buf.len().min(4);
@@ -92,9 +91,9 @@ mod tests {
 
     #[test]
     fn a_failed_read_is_no_end(rt: HostRuntime) {
-        assert_eq!(rt; read_of(0, 0), Err(ErrorKind::WouldBlock));
-        assert_eq!(rt; read_of(3, 1), Err(ErrorKind::WouldBlock));
-        assert_eq!(rt; read_of(0, 3), Err(ErrorKind::WouldBlock));
+        assert_eq!(rt; read_of(0, 0), Err(ErrorKind::ConnectionReset));
+        assert_eq!(rt; read_of(3, 1), Err(ErrorKind::ConnectionReset));
+        assert_eq!(rt; read_of(0, 3), Err(ErrorKind::ConnectionReset));
         assert_eq!(rt; read_of(0, 4), Ok(9));
     }
 }

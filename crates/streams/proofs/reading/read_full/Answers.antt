@@ -5,7 +5,7 @@ use Rattle.std.proofs.lemmas.List.{take_at}
 use Rattle.std.proofs.KnownBytes.{Consumes-trans}
 use Rattle.std.specs.Io.KnownBytes.{Consumes, IsAtEnd}
 use borrow.Rule.Slice.PartMut.{put_mid}
-use Rattle.input_bytes.proofs.read_full.Goals as goal
+use Rattle.streams.proofs.reading.read_full.Goals as goal
 
 -- what a reader gave that filled the buffer, or that is at its end
 first_bytes : (a b : Option (List ℕ)) (n : ℕ) (buffer : List ℕ) → n ≤ length buffer → Consumes a b (take n buffer) → (length buffer ≤ n) ⊎ IsAtEnd b
