@@ -7,10 +7,10 @@
  * Threads. No global state and no heap: calls may be made from several threads at once on separate buffers, each with `records` of
  * its own. A format or a list text may be shared, as long as nothing writes to it.
  *
- * Stack. As measured, on 34 inputs, small and largest: no call takes more than 32 KB (32,768 bytes), trimsheet_write_slices up to 31,232
- * bytes, trimsheet_check_slice up to 9,744; under a format of up to 64 bytes and 64 items met, repeats counted, 8 KB and 1 KB. The inline
- * functions below add some 0.1 KB. Where the C library is linked dynamically, the first call has its functions bound, which takes some
- * 3 KB more under such short formats.
+ * Stack. As measured, on 35 inputs, small and largest: no call takes more than 32 KB (32,768 bytes), trimsheet_write_slices up to 31,232
+ * bytes, trimsheet_check_slice up to 9,744; under a format of up to 64 bytes and 64 items met, repeats counted, up to 7,672 and 1,104. The
+ * inline functions below add some 100 bytes. Where the C library is linked dynamically, the first call has its functions bound, which takes
+ * some 3 KB more under such short formats.
  *
  * Limits. A format has at most 1,024 bytes, groups to level 4, and at most 4,096 fields and other items, repeats counted (its size). A
  * record is 1 to 255 columns wide; there are as many as the buffer holds. A list has at most 64 elements; integers and the units of

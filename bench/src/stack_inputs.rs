@@ -64,6 +64,8 @@ fn one_byte_items(length: usize) -> Sheet {
 fn lengths() -> Vec<Input> {
     vec![
         small().input("small format", 0),
+        Sheet { format: "(((((I1)))))".to_string(), text: "I 7\n".to_string(), ..small() }
+            .input("small format, groups to level 4", 0),
         one_byte_items(64).input("64 bytes of one-byte items", 0),
         one_byte_items(66).input("66 bytes of one-byte items", 0),
         one_byte_items(256).input("256 bytes of one-byte items", 0),
