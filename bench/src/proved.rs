@@ -7,7 +7,7 @@ use crate::contestants::{Contestant, Work};
 use reference::Value;
 use slots::{Slots, SLOTS};
 
-/// An element as `bench_calls` takes it and gives it: what `Slots` has of one.
+/// An element as `bench_calls` takes it and gives it: a `Slot` of `test_calls`.
 #[repr(C)]
 #[derive(Clone, PartialEq)]
 struct ListSlot {

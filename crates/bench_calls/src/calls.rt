@@ -1,16 +1,22 @@
 // The calls that are measured, each once.
-use crate::ListSlot;
 use crate::lists::listed;
 use format_check::check::check;
 use list_elements::List;
 use sheet_read::read::read;
 use sheet_write::write::write;
+use test_calls::slots::Slot;
+
+// No element: no kind has this number.
+const NONE: Slot = Slot {
+    shape: [usize::MAX; 3],
+    number: 0,
+};
 
 // Writes a list; how many records it filled, 0 where it is refused.
 pub fn bench_write(
     width: usize,
     format: &[u8],
-    slots: &[ListSlot],
+    slots: &[Slot],
     area: &[u8],
     buffer: &mut [u8],
 ) -> usize {
@@ -22,14 +28,14 @@ pub fn bench_write(
 pub fn bench_read(
     width: usize,
     format: &[u8],
-    wanted: &[ListSlot],
+    wanted: &[Slot],
     area: &mut [u8],
     records: &[u8],
     place: usize,
-) -> ListSlot {
+) -> Slot {
     let slot = place % List::MOST;
     let given = read(width, format, listed(wanted), area, records);
-    given.map_or(ListSlot::NONE, |sheet| sheet.list.elements[slot].into())
+    given.map_or(NONE, |sheet| sheet.list.elements[slot].value.into())
 }
 
 // Checks a format; whether it is accepted.

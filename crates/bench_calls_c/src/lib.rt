@@ -1,14 +1,15 @@
 // For the benchmark only: the functions of the crate bench_calls, exported to C. A slice is passed as a pointer and a length.
 #![tactic(auto)]
 
-use bench_calls::{ListSlot, calls};
+use bench_calls::calls;
+use test_calls::slots::Slot;
 
 // `bench_calls::calls::bench_write`.
 #[unsafe(no_mangle)]
 pub extern "C" fn bench_write(
     width: usize,
     format: &[u8],
-    slots: &[ListSlot],
+    slots: &[Slot],
     area: &[u8],
     buffer: &mut [u8],
 ) -> usize {
@@ -20,11 +21,11 @@ pub extern "C" fn bench_write(
 pub extern "C" fn bench_read(
     width: usize,
     format: &[u8],
-    wanted: &[ListSlot],
+    wanted: &[Slot],
     area: &mut [u8],
     records: &[u8],
     place: usize,
-) -> ListSlot {
+) -> Slot {
     calls::bench_read(width, format, wanted, area, records, place)
 }
 

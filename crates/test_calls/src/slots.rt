@@ -10,7 +10,8 @@ const LOGICAL: usize = 2;
 
 const TEXT: usize = 3;
 
-// What stands in `shapes` and in `numbers` for one slot.
+// What stands in `shapes` and in `numbers` for one slot; `bench_calls` passes it whole.
+#[repr(C)]
 #[derive(Clone, Copy, PartialEq, Eq, Debug)]
 pub struct Slot {
     // The kind; the places or a text's start; a text's length.

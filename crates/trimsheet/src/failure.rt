@@ -1,7 +1,7 @@
 // Why the program answers no sheet.
 use std::{fmt, io};
 
-#[derive(Debug, Drop)]
+#[derive(Drop)]
 pub enum Failure {
     // A read of standard input failed.
     Read(io::Error),

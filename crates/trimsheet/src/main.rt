@@ -15,7 +15,8 @@ use std::process::ExitCode;
 use streams::reading::read_full;
 use streams::writing::write_full;
 
-// Writes the output for the whole of an input, of which it reads the first INPUT bytes.
+// Writes the output for the whole of an input, of which it reads the first INPUT bytes. (By `match` and not by `map_err`, since what it
+// promises of a failure goes by which one it is.)
 fn run<R: Read, W: Write>(reader: &mut R, writer: &mut W) -> Result<(), Failure>
     ensures answered { OnOk result (Answered INPUT (R.remaining reader.old) (R.remaining reader.new) (W.contents writer.old) (W.contents writer.new)) }
     ensures failed { IfErr result (λ why. Failed why INPUT (R.remaining reader.old) (R.remaining reader.new) (W.contents writer.old) (W.contents writer.new)) }

@@ -4,15 +4,15 @@ use Rattle.std.specs.Io.KnownBytes.{Appends}
 use lib.Seq.{take-add}
 use Rattle.streams.proofs.writing.write_full.Goals as goal
 
--- the first bytes, and a beginning of the part behind them
-front_and_part : (at n : ℕ) (xs : List ℕ) → take at xs ++ take n (take (length xs - at) (drop at xs)) ≡ take (at + n) xs
-front_and_part at n xs =
+-- the first bytes, and a beginning of those behind them
+front_and_beginning : (at n : ℕ) (xs : List ℕ) → take at xs ++ take n (take (length xs - at) (drop at xs)) ≡ take (at + n) xs
+front_and_beginning at n xs =
     ap (λ l. take at xs ++ take n l) (take_all (length xs - at) (drop at xs) (omega (arith, length-drop at xs))) ∙ sym (take-add at n xs)
 
 pub loop-done-preserved : goal.loop-done-preserved
 loop-done-preserved g c = record {
   within = search rules;
   given =
-      subst (Appends _ _) (front_and_part c.loop-done.done c.in_ok-n.n c.args.bytes.now)
+      subst (Appends _ _) (front_and_beginning c.loop-done.done c.in_ok-n.n c.args.bytes.now)
       (Appends-trans _ _ _ _ _ c.loop-done.invariant.given c.in_ok-n.ensures.bytes);
 }
