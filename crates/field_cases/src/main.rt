@@ -18,6 +18,8 @@ fn show_all(rt: &impl Print, cases: &[impl Case]) -> io::Result<()> {
 fn main(rt: HostRuntime) -> io::Result<()> {
     show_all(&rt, &written::integers())?;
     show_all(&rt, &written::decimals())?;
+    show_all(&rt, &written::integers_after_sp())?;
+    show_all(&rt, &written::decimals_after_sp())?;
     show_all(&rt, &written::integer_limits())?;
     show_all(&rt, &written::decimal_limits())?;
     show_all(&rt, &read::integers())?;

@@ -7,23 +7,26 @@ use case_lines::shown::show_bytes;
 use field_written::decimal::write_decimal;
 use field_written::integer::write_integer;
 use number::TooLarge;
+use settings::SignSetting;
 use std::io;
 
-// n under Iw.
+// n under Iw, after SS or after SP.
 #[derive(Clone, Copy, PartialEq, Eq, Debug)]
 pub struct IntegerCase {
     width: usize,
     n: i64,
+    setting: SignSetting,
     ghost fits: { (width ≤ 64) × (nat_abs n ≤ largest) },
 }
 
-// units / 10^places under Fw.d.
+// units / 10^places under Fw.d, after SS or after SP.
 #[derive(Clone, Copy, PartialEq, Eq, Debug)]
 pub struct DecimalCase {
     width: usize,
     d: usize,
     units: i64,
     places: usize,
+    setting: SignSetting,
     ghost fits: { (width ≤ 64) × (d ≤ most_places) × (nat_abs units ≤ largest) × (places ≤ most_places) },
 }
 
@@ -31,14 +34,28 @@ impl IntegerCase {
     fn new(width: usize, n: i64) -> Self
         requires { (width ≤ 64) × (nat_abs n ≤ largest) }
     {
-        IntegerCase { width, n }
+        IntegerCase {
+            width,
+            n,
+            setting: SignSetting::AfterSS,
+        }
+    }
+
+    fn after_sp(width: usize, n: i64) -> Self
+        requires { (width ≤ 64) × (nat_abs n ≤ largest) }
+    {
+        IntegerCase {
+            width,
+            n,
+            setting: SignSetting::AfterSP,
+        }
     }
 }
 
 impl Case for IntegerCase {
     fn show(&self, rt: &impl Print) -> io::Result<()> {
         let mut line = [b'x'; 68];
-        let starred = write_integer(&mut line[2..2 + self.width], self.n);
+        let starred = write_integer(&mut line[2..2 + self.width], self.n, self.setting);
         show_bytes(rt, &line[..self.width + 4])?;
         println!(rt; "{}", if starred { " starred" } else { "" })
     }
@@ -53,6 +70,19 @@ impl DecimalCase {
             d,
             units,
             places,
+            setting: SignSetting::AfterSS,
+        }
+    }
+
+    fn after_sp(width: usize, d: usize, units: i64, places: usize) -> Self
+        requires { (width ≤ 64) × (d ≤ most_places) × (nat_abs units ≤ largest) × (places ≤ most_places) }
+    {
+        DecimalCase {
+            width,
+            d,
+            units,
+            places,
+            setting: SignSetting::AfterSP,
         }
     }
 }
@@ -65,6 +95,7 @@ impl Case for DecimalCase {
             self.d,
             self.units,
             self.places,
+            self.setting,
         );
         show_bytes(rt, &line[..self.width + 4])?;
         match answer {
@@ -112,6 +143,38 @@ pub fn decimals() -> [DecimalCase; 20] {
         DecimalCase::new(5, 2, -4, 3),
         DecimalCase::new(2, 1, 3, 1),
         DecimalCase::new(1, 1, 3, 1),
+    ]
+}
+
+// After SP.
+pub fn integers_after_sp() -> [IntegerCase; 10] {
+    [
+        IntegerCase::after_sp(3, 5),
+        IntegerCase::after_sp(3, 0),
+        IntegerCase::after_sp(3, -5),
+        IntegerCase::after_sp(2, 10),
+        IntegerCase::after_sp(2, -1),
+        IntegerCase::after_sp(2, -10),
+        IntegerCase::after_sp(1, 0),
+        IntegerCase::after_sp(2, 0),
+        IntegerCase::after_sp(18, 999_999_999_999_999_999),
+        IntegerCase::after_sp(20, 999_999_999_999_999_999),
+    ]
+}
+
+pub fn decimals_after_sp() -> [DecimalCase; 11] {
+    [
+        DecimalCase::after_sp(4, 1, 3, 1),
+        DecimalCase::after_sp(3, 1, 3, 1),
+        DecimalCase::after_sp(2, 1, 3, 1),
+        DecimalCase::after_sp(4, 1, -4, 2),
+        DecimalCase::after_sp(3, 1, -4, 2),
+        DecimalCase::after_sp(4, 1, -3, 1),
+        DecimalCase::after_sp(2, 0, 0, 0),
+        DecimalCase::after_sp(3, 0, 0, 0),
+        DecimalCase::after_sp(4, 1, 995, 2),
+        DecimalCase::after_sp(5, 1, 995, 2),
+        DecimalCase::after_sp(3, 9, 999_999_999_999_999_999, 0),
     ]
 }
 

@@ -13,7 +13,8 @@ use Rattle.number.specs.Limits.{largest, most_places}
 use Rattle.number.specs.Digits.{value}
 use Rattle.number.specs.Rounding.{rounded_units}
 use Rattle.number.proofs.DigitLaws.{digits_append}
-use Rattle.field_written.specs.Numeral.{Setting, Numeric, I, F, places, point, sign_bytes, signed, Numeral, characters, stands_for}
+use Rattle.settings.specs.declared.SignSetting.{SignSetting}
+use Rattle.field_written.specs.Numeral.{Numeric, I, F, places, point, sign_bytes, signed, Numeral, characters, stands_for}
 use Rattle.field_written.specs.declared.Sign.{Sign}
 use Rattle.field_written.specs.declared.Sign.TheVariants.{None as NoSign, Plus, Minus}
 use Rattle.field_written.specs.Written.{field, starred, decimal_field, put_refusal, put_starred}
@@ -41,7 +42,7 @@ unfolding unblanked
 unblanked_point I = refl
 unblanked_point (F d) = refl
 
-unblanked_numeral : {g : Setting} {f : Numeric} {w : ℕ} (t : Numeral g f w) → unblanked (characters t) ≡ sign_bytes t.sign ++ (t.whole ++ (point f ++ t.fraction))
+unblanked_numeral : {g : SignSetting} {f : Numeric} {w : ℕ} (t : Numeral g f w) → unblanked (characters t) ≡ sign_bytes t.sign ++ (t.whole ++ (point f ++ t.fraction))
 unblanked_numeral {g} {f} t =
     simp (unblanked_append, unblanked_blanks, unblanked_sign, unblanked_point, unblanked_digits t.whole t.whole_digits, unblanked_digits t.fraction t.fraction_digits)
 
@@ -53,7 +54,7 @@ nat_abs_signed Plus m = refl
 nat_abs_signed Minus zero = refl
 nat_abs_signed Minus (suc m) = refl
 
-numeral_spells : (g : Setting) (f : Numeric) (w : ℕ) (t : Numeral g f w) → places f ≤ most_places → value (t.whole ++ t.fraction) ≤ largest → SpellsNumber (characters t) f (stands_for t) (places f)
+numeral_spells : (g : SignSetting) (f : Numeric) (w : ℕ) (t : Numeral g f w) → places f ≤ most_places → value (t.whole ++ t.fraction) ≤ largest → SpellsNumber (characters t) f (stands_for t) (places f)
 numeral_spells g I w t l h =
     without_point t.sign (t.whole ++ t.fraction) (unblanked_numeral t) (omega (arith, t.some, length-append t.whole t.fraction)) (digits_append t.whole t.fraction t.whole_digits t.fraction_digits) h
 numeral_spells g (F d) w t l h =
@@ -64,7 +65,7 @@ numeral_spells g (F d) w t l h =
 pub number_read_is : NumberReadIs
 number_read_is = NumberReads.number_read_is
 
-numeral_read : (g : Setting) (f : Numeric) (w : ℕ) (t : Numeral g f w) → places f ≤ most_places → nat_abs (stands_for t) ≤ largest → read_field f (characters t) ≡ number (stands_for t) (places f)
+numeral_read : (g : SignSetting) (f : Numeric) (w : ℕ) (t : Numeral g f w) → places f ≤ most_places → nat_abs (stands_for t) ≤ largest → read_field f (characters t) ≡ number (stands_for t) (places f)
 numeral_read g f w t l h =
     let m : value (t.whole ++ t.fraction) ≤ largest = rw (nat_abs_signed t.sign (value (t.whole ++ t.fraction))) at h in
     (number_read_is f (characters t) (stands_for t) (places f)).1 (numeral_spells g f w t l m)
@@ -76,7 +77,7 @@ pub numeral_reads : NumeralReads
 numeral_reads g f w t l h = gives (numeral_read g f w t l h)
 
 -- a field that is not starred reads as its value
-unstarred_reads : (g : Setting) (f : Numeric) (w : ℕ) (n : ℤ) → places f ≤ most_places → nat_abs n ≤ largest → starred g f w n ≡ false → Gives (read_field f (field g f w n)) n (places f)
+unstarred_reads : (g : SignSetting) (f : Numeric) (w : ℕ) (n : ℤ) → places f ≤ most_places → nat_abs n ≤ largest → starred g f w n ≡ false → Gives (read_field f (field g f w n)) n (places f)
 unstarred_reads g f w n l h e =
     let t = unstarred_is_numeral g f w n e in
     let v = t.2.stands in

@@ -4,7 +4,8 @@ use Rattle.std.specs.Prelude.{◌≡◌, ◌↔◌, Bool, true, false, cond, Lis
 use Rattle.buffer.specs.Characters.{blank, asterisk, decimal_point, all_printable}
 use Rattle.number.specs.Limits.{largest, most_places}
 use Rattle.number.specs.Digits.{Digits, value}
-use Rattle.field_written.specs.Numeral.{Setting, Numeric, I, F, places, sign_bytes, signed, Numeral, characters, stands_for}
+use Rattle.settings.specs.declared.SignSetting.{SignSetting}
+use Rattle.field_written.specs.Numeral.{Numeric, I, F, places, sign_bytes, signed, Numeral, characters, stands_for}
 use Rattle.field_written.specs.declared.Sign.{Sign}
 use Rattle.field_written.specs.Written.{field, starred, decimal_field, put_decimal, put_refusal, put_starred}
 use Rattle.field_written.specs.LogicalField.{letter, logical_field}
@@ -32,17 +33,17 @@ NumberReadIs = (f : Numeric) (t : List ℕ) (u : ℤ) (p : ℕ) → (read_field 
 -- every numeral of width w, within the limits, reads back as the number that it stands for, under F with d places
 abbrev pub NumeralReads : Type 0
 NumeralReads =
-    (g : Setting) (f : Numeric) (w : ℕ) (t : Numeral g f w) → places f ≤ most_places → nat_abs (stands_for t) ≤ largest → Gives (read_field f (characters t)) (stands_for t) (places f)
+    (g : SignSetting) (f : Numeric) (w : ℕ) (t : Numeral g f w) → places f ≤ most_places → nat_abs (stands_for t) ≤ largest → Gives (read_field f (characters t)) (stands_for t) (places f)
 
 -- an integer's field that is not starred reads back as the shown value
 abbrev pub IntegerReadsBack : Type 0
 IntegerReadsBack =
-    (g : Setting) (w : ℕ) (n : ℤ) → nat_abs n ≤ largest → starred g I w n ≡ false → Gives (read_field I (field g I w n)) (shown_integer n) 0
+    (g : SignSetting) (w : ℕ) (n : ℤ) → nat_abs n ≤ largest → starred g I w n ≡ false → Gives (read_field I (field g I w n)) (shown_integer n) 0
 
 -- and so does the field of a decimal u / 10^s under Fw.d that is neither refused nor starred
 abbrev pub DecimalReadsBack : Type 0
 DecimalReadsBack =
-    (g : Setting) (w d : ℕ) (u : ℤ) (s : ℕ) → d ≤ most_places → put_refusal (put_decimal g w d u s) ≡ 0 → put_starred (put_decimal g w d u s) ≡ 0 → Gives (read_field (F d) (decimal_field g w d u s)) (shown_units u s d) (shown_places u s d)
+    (g : SignSetting) (w d : ℕ) (u : ℤ) (s : ℕ) → d ≤ most_places → put_refusal (put_decimal g w d u s) ≡ 0 → put_starred (put_decimal g w d u s) ≡ 0 → Gives (read_field (F d) (decimal_field g w d u s)) (shown_units u s d) (shown_places u s d)
 
 -- w asterisks are refusal 12
 abbrev pub StarsRefused : Type 0

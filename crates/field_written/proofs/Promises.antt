@@ -21,11 +21,14 @@ use Rattle.number.specs.Digits.{Digits, value, digits_of}
 use Rattle.number.specs.Rounding.{Nearest, rounded_units, too_large, too_large_error}
 use Rattle.number.proofs.RoundingLaws.{rounded_is, rounded_right}
 use Rattle.number.proofs.DigitLaws.{value_none, length_digits, digits_are, value_digits, value_below, value_append, no_zero, digits_cut, digits_unique, digits_exact}
-use Rattle.field_written.specs.Numeral.{Numeric, I, F, places, point, sign_bytes, signed, layout, Setting, plain, Permitted, Numeral, characters, stands_for}
+use Rattle.number.specs.Magnitude.{negative}
+use Rattle.settings.specs.declared.SignSetting.{SignSetting}
+use Rattle.settings.specs.declared.SignSetting.TheVariants.{AfterSS, AfterSP}
+use Rattle.field_written.specs.Numeral.{Numeric, I, F, places, point, sign_bytes, signed, layout, Permitted, Numeral, characters, stands_for}
 use Rattle.field_written.specs.declared.Sign.{Sign}
 use Rattle.field_written.specs.declared.Sign.TheVariants.{None, Plus, Minus}
 use Rattle.field_written.specs.Written.{sign_for, most_digits, fewest_digits, numeral_text, field_text, fewest_columns, field, starred, decimal_field, put_decimal, decimal_part, after_decimal, put_refusal, put_starred}
-use Rattle.field_written.specs.Promises.{FieldLength, StarredIs, StarsExactlyWhen, AsWritten, UnstarredIsNumeral, FieldOnly, DecimalPartOf, DecimalRefusedWhen, DecimalRefusedLeaves, DecimalStarsExactlyWhen, DecimalStarred, DecimalShown}
+use Rattle.field_written.specs.Promises.{SignIs, FieldLength, StarredIs, StarsExactlyWhen, AsWritten, UnstarredIsNumeral, FieldOnly, DecimalPartOf, DecimalRefusedWhen, DecimalRefusedLeaves, DecimalStarsExactlyWhen, DecimalStarred, DecimalShown}
 use Rattle.number.specs.declared.TooLarge.{TooLarge}
 use Rattle.std.specs.Prelude.{Result, Ok, Err}
 use Rattle.field_written.proofs.Fewest.{whole_part, Fewest, gone, kept, fewest_cases, most_zero, most_of_zero, most_as, most_holds, most_pos, fewest_holds, fewest_least}
@@ -33,20 +36,48 @@ use Rattle.field_written.proofs.Cases.{beside, length_numeral, shown_text, colum
 
 -- ---- signs
 
--- the sign of n with its magnitude makes n, and the setting permits it
-stands_as : (g : Setting) (n : ℤ) → signed (sign_for g n) (nat_abs n) ≡ n
-stands_as plain (pos m) = refl
-stands_as plain (negsuc m) = refl
+-- the sign of n with its magnitude makes n
+stands_as : (g : SignSetting) (n : ℤ) → signed (sign_for g n) (nat_abs n) ≡ n
+stands_as AfterSS (pos m) = refl
+stands_as AfterSS (negsuc m) = refl
+stands_as AfterSP (pos m) = refl
+stands_as AfterSP (negsuc m) = refl
 
-permits : (g : Setting) (n : ℤ) (x y : List ℕ) → Permitted g (sign_for g n) x y
-permits plain n x y = tt
+-- and the setting permits it
+permits : (g : SignSetting) (n : ℤ) (x y : List ℕ) → value (x ++ y) ≡ nat_abs n → Permitted g (sign_for g n) x y
+permits AfterSS n x y v = tt
+permits AfterSP (pos m) x y v = λ e. refl
+permits AfterSP (negsuc m) x y v = λ e. let k = rw v at e in let z : ⊥ = cc in absurd z
 
--- any sign that makes n is as long at least
-sign_needed : (g : Setting) (n : ℤ) (s : Sign) (v : ℕ) → signed s v ≡ n → (nat_abs n ≡ v) × (length (sign_bytes (sign_for g n)) ≤ length (sign_bytes s))
-sign_needed plain n None v e = rw (← e) (refl, omega arith)
-sign_needed plain n Plus v e = rw (← e) (refl, omega arith)
-sign_needed plain n Minus zero e = rw (← e) (refl, omega arith)
-sign_needed plain n Minus (suc v) e = rw (← e) (refl, omega arith)
+-- a sign makes the magnitude of what it makes
+magnitude_made : (n : ℤ) (s : Sign) (v : ℕ) → signed s v ≡ n → nat_abs n ≡ v
+magnitude_made n None v e = rw (← e) refl
+magnitude_made n Plus v e = rw (← e) refl
+magnitude_made n Minus zero e = rw (← e) refl
+magnitude_made n Minus (suc v) e = rw (← e) refl
+
+-- any sign that makes n, and is permitted, is as long at least
+sign_needed : (g : SignSetting) (n : ℤ) (s : Sign) (x y : List ℕ) (v : ℕ) → value (x ++ y) ≡ v → Permitted g s x y → signed s v ≡ n → length (sign_bytes (sign_for g n)) ≤ length (sign_bytes s)
+sign_needed AfterSS n None x y v q p e = rw (← e) (omega arith)
+sign_needed AfterSS n Plus x y v q p e = rw (← e) (omega arith)
+sign_needed AfterSS n Minus x y zero q p e = rw (← e) (omega arith)
+sign_needed AfterSS n Minus x y (suc v) q p e = rw (← e) (omega arith)
+sign_needed AfterSP n None x y v q p e = let k = p refl in let z : ⊥ = cc in absurd z
+sign_needed AfterSP n Plus x y v q p e = rw (← e) (omega arith)
+sign_needed AfterSP n Minus x y zero q p e = let k = (rw q at p) refl in let z : ⊥ = cc in absurd z
+sign_needed AfterSP n Minus x y (suc v) q p e = rw (← e) (omega arith)
+
+pub sign_is : SignIs
+sign_is (pos m) = (
+  λ g.
+      (λ e. no_minus g e, λ e. let z : ⊥ = cc in absurd z),
+  λ e. (refl, refl),
+)
+  where
+    no_minus : (g : SignSetting) → sign_for g (pos m) ≡ Minus → negative (pos m) ≡ true
+    no_minus AfterSS e = let z : ⊥ = cc in absurd z
+    no_minus AfterSP e = let z : ⊥ = cc in absurd z
+sign_is (negsuc m) = (λ g. (λ e. refl, λ e. refl), λ e. let z : ⊥ = cc in absurd z)
 
 -- ---- a field that is not starred
 
@@ -58,7 +89,7 @@ value_numeral f k m h =
 length_shown : (f : Numeric) (w : ℕ) (s : Sign) (k m : ℕ) → beside f s + k ≤ w → length (shown_text f w s k m) ≡ w
 length_shown f w s k m h = simp (length-append, length-replicate, length_numeral) (omega arith)
 
-module _ (g : Setting) (f : Numeric) (w : ℕ) (n : ℤ) where
+module _ (g : SignSetting) (f : Numeric) (w : ℕ) (n : ℤ) where
   fits : starred g f w n ≡ false → beside f (sign_for g n) + fewest_digits f (nat_abs n) ≤ w
   unfolding starred
   fits e = omega (arith, columns_are f w (sign_for g n) (nat_abs n), ltb-false w (fewest_columns f (sign_for g n) (nat_abs n)) e)
@@ -93,7 +124,7 @@ fewest_lead f m rest e = go (fewest_cases f m)
         absurd (omega arith)
     go (kept q k) = most_lead f m rest (ap (λ (k : ℕ). digits_of k (whole_part f m)) (sym q) ∙ e)
 
-shown : (g : Setting) (f : Numeric) (w : ℕ) (n : ℤ) → starred g f w n ≡ false → Shown f w (sign_for g n) (nat_abs n)
+shown : (g : SignSetting) (f : Numeric) (w : ℕ) (n : ℤ) → starred g f w n ≡ false → Shown f w (sign_for g n) (nat_abs n)
 shown g f w n e =
     let m : ℕ = nat_abs n in
     let s : Sign = sign_for g n in
@@ -138,7 +169,7 @@ unstarred_is_numeral g f w n e =
         fraction_digits = digits_are (places f) m;
         exactly = length_digits (places f) m;
         some = rw (length_digits k (whole_part f m), length_digits (places f) m) d.some;
-        permitted = permits g n whole (digits_of (places f) m);
+        permitted = permits g n whole (digits_of (places f) m) (value_numeral f k m d.holds);
         width = length_shown f w s k m d.room;
       },
       sym d.is,
@@ -153,12 +184,12 @@ unstarred_is_numeral g f w n e =
 -- ---- the parts of a numeral
 
 -- by the magnitude that it stands for
-record Parts (g : Setting) (f : Numeric) (w : ℕ) (m : ℕ) (t : Numeral g f w) : Type 0 where
+record Parts (g : SignSetting) (f : Numeric) (w : ℕ) (m : ℕ) (t : Numeral g f w) : Type 0 where
   whole_value : value t.whole ≡ whole_part f m
   whole_is : t.whole ≡ digits_of (length t.whole) (whole_part f m)
   fraction_is : t.fraction ≡ digits_of (places f) m
 
-parts : {g : Setting} {f : Numeric} {w : ℕ} (m : ℕ) (t : Numeral g f w) → m ≡ value (t.whole ++ t.fraction) → Parts g f w m t
+parts : {g : SignSetting} {f : Numeric} {w : ℕ} (m : ℕ) (t : Numeral g f w) → m ≡ value (t.whole ++ t.fraction) → Parts g f w m t
 parts {g} {f} {w} m t e =
     let low : value t.fraction < 10 ^ places f = rw (← t.exactly) (value_below t.fraction t.fraction_digits) in
     let v : m ≡ value t.whole * 10 ^ places f + value t.fraction = e ∙ value_append t.whole t.fraction ∙ rw t.exactly in
@@ -172,20 +203,20 @@ parts {g} {f} {w} m t e =
 
 -- ---- every numeral is as long as the shortest at least
 
-no_shorter : {g : Setting} {f : Numeric} {w : ℕ} (n : ℤ) (t : Numeral g f w) → stands_for t ≡ n → fewest_columns f (sign_for g n) (nat_abs n) ≤ w
+no_shorter : {g : SignSetting} {f : Numeric} {w : ℕ} (n : ℤ) (t : Numeral g f w) → stands_for t ≡ n → fewest_columns f (sign_for g n) (nat_abs n) ≤ w
 unfolding beside
 no_shorter {g} {f} {w} n t e =
     let m : ℕ = nat_abs n in
-    let s = sign_needed g n t.sign (value (t.whole ++ t.fraction)) e in
-    let q : whole_part f m ≡ value t.whole = sym (parts m t s.0).whole_value in
+    let v : ℕ = value (t.whole ++ t.fraction) in
+    let q : whole_part f m ≡ value t.whole = sym (parts m t (magnitude_made n t.sign v e)).whole_value in
     let k : fewest_digits f m ≤ length t.whole =
     fewest_least f m (length t.whole) (rw q (value_below t.whole t.whole_digits)) (omega (arith, t.some, t.exactly)) in
     let l = simp (length-append, length-replicate) at t.width in
-    omega (arith, s.1, t.exactly, columns_are f w (sign_for g n) m)
+    omega (arith, sign_needed g n t.sign t.whole t.fraction v refl t.permitted e, t.exactly, columns_are f w (sign_for g n) m)
 
 -- ---- asterisks
 
-starred_stars : (g : Setting) (f : Numeric) (w : ℕ) (n : ℤ) → starred g f w n ≡ true → field g f w n ≡ replicate w asterisk
+starred_stars : (g : SignSetting) (f : Numeric) (w : ℕ) (n : ℤ) → starred g f w n ≡ true → field g f w n ≡ replicate w asterisk
 unfolding field
 starred_stars g f w n e = stars f w (sign_for g n) (nat_abs n) (narrow g f w n e)
 
@@ -196,7 +227,7 @@ no_asterisk I [] [] h g l e = omega arith
 no_asterisk I [] (b ∷ y) h g l e = omega arith
 no_asterisk (F d) [] y h g l e = omega arith
 
-not_stars : {g : Setting} {f : Numeric} {w : ℕ} (t : Numeral g f w) → characters t ≡ replicate w asterisk → ⊥
+not_stars : {g : SignSetting} {f : Numeric} {w : ℕ} (t : Numeral g f w) → characters t ≡ replicate w asterisk → ⊥
 not_stars {g} {f} {w} t e =
     let p : List ℕ = replicate t.blanks blank in
     let q : List ℕ = sign_bytes t.sign in
@@ -217,9 +248,9 @@ value_zero = refl
 same_layout : (f : Numeric) {b b' : ℕ} {s s' : Sign} {x x' y y' : List ℕ} → b ≡ b' → s ≡ s' → x ≡ x' → y ≡ y' → layout f b s x y ≡ layout f b' s' x' y'
 same_layout f p q r z = rw (p, q, r, z)
 
-module _ (g : Setting) (f : Numeric) (w : ℕ) (n : ℤ) (t : Numeral g f w) (a : AsWritten g f w n t) where
+module _ (g : SignSetting) (f : Numeric) (w : ℕ) (n : ℤ) (t : Numeral g f w) (a : AsWritten g f w n t) where
   at_parts : Parts g f w (nat_abs n) t
-  at_parts = parts (nat_abs n) t (sign_needed g n t.sign (value (t.whole ++ t.fraction)) a.stands).0
+  at_parts = parts (nat_abs n) t (magnitude_made n t.sign (value (t.whole ++ t.fraction)) a.stands)
 
   columns : t.blanks + (beside f (sign_for g n) + length t.whole) ≡ w
   unfolding beside
@@ -295,12 +326,12 @@ stars_exactly_when g f w n = go (starred g f w n) refl
 
 -- ---- decimals, by the answer
 
-pub data Case (g : Setting) (w d : ℕ) (u : ℤ) (s : ℕ) : Type 0 where
+pub data Case (g : SignSetting) (w d : ℕ) (u : ℤ) (s : ℕ) : Type 0 where
   large : too_large u s d ≡ true → put_decimal g w d u s ≡ Err too_large_error → Case g w d u s
   narrow_case : too_large u s d ≡ false → starred g (F d) w (rounded_units u s d) ≡ true → put_decimal g w d u s ≡ Ok true → Case g w d u s
   wide_case : too_large u s d ≡ false → starred g (F d) w (rounded_units u s d) ≡ false → put_decimal g w d u s ≡ Ok false → Case g w d u s
 
-pub case_of : (g : Setting) (w d : ℕ) (u : ℤ) (s : ℕ) → Case g w d u s
+pub case_of : (g : SignSetting) (w d : ℕ) (u : ℤ) (s : ℕ) → Case g w d u s
 unfolding put_decimal
 case_of g w d u s = go (too_large u s d) (starred g (F d) w (rounded_units u s d)) refl refl
   where

@@ -1,8 +1,11 @@
 -- The rules, 'Fields written': the numeral of width w, and what it stands for.
 -- Assumes nothing.
-use Rattle.std.specs.Prelude.{◌≡◌, List, [], ◌∷◌, ◌++◌, ℕ, ◌+◌, ◌<◌, length, replicate, ℤ, pos, neg_ℤ}
+use Rattle.std.specs.Prelude.{◌≡◌, false, List, [], ◌∷◌, ◌++◌, ℕ, ◌+◌, ◌<◌, length, replicate, ℤ, pos, neg_ℤ}
 use Rattle.buffer.specs.Characters.{blank, plus_sign, minus_sign, decimal_point}
+use Rattle.number.specs.Magnitude.{negative}
 use Rattle.number.specs.Digits.{Digits, value}
+use Rattle.settings.specs.declared.SignSetting.{SignSetting}
+use Rattle.settings.specs.declared.SignSetting.TheVariants.{AfterSS, AfterSP}
 use Rattle.field_written.specs.declared.Sign.{Sign}
 use Rattle.field_written.specs.declared.Sign.TheVariants.{None, Plus, Minus}
 
@@ -37,16 +40,14 @@ signed Minus m = neg_ℤ (pos m)
 abbrev pub layout : Numeric → ℕ → Sign → List ℕ → List ℕ → List ℕ
 layout f blanks sign whole fraction = replicate blanks blank ++ (sign_bytes sign ++ (whole ++ (point f ++ fraction)))
 
--- A setting says which numerals are permitted. There is one, which permits all.
-pub data Setting : Type 0 where
-  plain : Setting
-
--- whether a setting permits a numeral with this sign and these digits
-abbrev pub Permitted : Setting → Sign → List ℕ → List ℕ → Type 0
-Permitted plain sign whole fraction = Unit {0}
+-- Whether a setting permits a numeral with this sign and these digits (the rules, 'Plus signs'): 'After SP, a numeral for a value of zero
+-- or more must carry +; after SS or S the rule above holds', by which every numeral is permitted.
+abbrev pub Permitted : SignSetting → Sign → List ℕ → List ℕ → Type 0
+Permitted AfterSS sign whole fraction = Unit {0}
+Permitted AfterSP sign whole fraction = negative (signed sign (value (whole ++ fraction))) ≡ false → sign ≡ Plus
 
 -- Term 'numeral of width w', under a setting
-pub record Numeral (g : Setting) (f : Numeric) (w : ℕ) : Type 0 where
+pub record Numeral (g : SignSetting) (f : Numeric) (w : ℕ) : Type 0 where
   -- 'blanks or none, then + or − or no sign'
   pub blanks : ℕ
   pub sign : Sign
@@ -62,10 +63,10 @@ pub record Numeral (g : Setting) (f : Numeric) (w : ℕ) : Type 0 where
   -- 'is w characters'
   pub width : length (layout f blanks sign whole fraction) ≡ w
 
-abbrev pub characters : {g : Setting} {f : Numeric} {w : ℕ} → Numeral g f w → List ℕ
+abbrev pub characters : {g : SignSetting} {f : Numeric} {w : ℕ} → Numeral g f w → List ℕ
 characters {f = f} t = layout f t.blanks t.sign t.whole t.fraction
 
 -- 'It stands for the whole number that its digits make without the point, divided by 10^d for F, and negated after −':
 -- for F the number is given in units of 10^-d
-abbrev pub stands_for : {g : Setting} {f : Numeric} {w : ℕ} → Numeral g f w → ℤ
+abbrev pub stands_for : {g : SignSetting} {f : Numeric} {w : ℕ} → Numeral g f w → ℤ
 stands_for t = signed t.sign (value (t.whole ++ t.fraction))

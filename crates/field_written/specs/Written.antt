@@ -6,9 +6,11 @@ use Rattle.buffer.specs.Splice.{splice}
 use Rattle.number.specs.Magnitude.{negative}
 use Rattle.number.specs.Digits.{digits_of, digit_count}
 use Rattle.number.specs.Rounding.{rounded_units, too_large, too_large_error}
-use Rattle.field_written.specs.Numeral.{Numeric, F, places, layout, Setting, plain}
+use Rattle.field_written.specs.Numeral.{Numeric, F, places, layout}
+use Rattle.settings.specs.declared.SignSetting.{SignSetting}
+use Rattle.settings.specs.declared.SignSetting.TheVariants.{AfterSS, AfterSP}
 use Rattle.field_written.specs.declared.Sign.{Sign}
-use Rattle.field_written.specs.declared.Sign.TheVariants.{None, Minus}
+use Rattle.field_written.specs.declared.Sign.TheVariants.{None, Plus, Minus}
 use Rattle.number.specs.declared.TooLarge.{TooLarge}
 
 -- ---- the text of a sign and a magnitude m, which for F counts units of 10^-d
@@ -43,39 +45,41 @@ fewest_columns f sign m = length (numeral_text f sign (fewest_digits f m) m)
 
 -- ---- the field of a value: n for I, the rounded units for F
 
-abbrev pub minus_if : Bool → Sign
-minus_if true = Minus
-minus_if false = None
+-- the sign of a value that is below zero, or not
+abbrev pub sign_if : SignSetting → Bool → Sign
+sign_if g true = Minus
+sign_if AfterSS false = None
+sign_if AfterSP false = Plus
 
--- 'with − exactly for a value below zero after rounding, never +'
-abbrev pub sign_for : Setting → ℤ → Sign
-sign_for plain n = minus_if (negative n)
+-- 'with − exactly for a value below zero after rounding'; else after SS and S no sign ('never +'), after SP +
+abbrev pub sign_for : SignSetting → ℤ → Sign
+sign_for g n = sign_if g (negative n)
 
 -- Term 'numeric field'
-unfoldable pub field : Setting → Numeric → ℕ → ℤ → List ℕ
+unfoldable pub field : SignSetting → Numeric → ℕ → ℤ → List ℕ
 field g f w n = field_text f w (sign_for g n) (nat_abs n)
 
 -- Term 'starred': no text fits, so that the field is w asterisks (the law `StarredIs` of `Promises`)
-unfoldable pub starred : Setting → Numeric → ℕ → ℤ → Bool
+unfoldable pub starred : SignSetting → Numeric → ℕ → ℤ → Bool
 starred g f w n = ltb w (fewest_columns f (sign_for g n) (nat_abs n))
 
 -- ---- the decimal u / 10^s under Fw.d
 
 -- its field, 'the decimal rounded to d places for F'
-abbrev pub decimal_field : Setting → ℕ → ℕ → ℤ → ℕ → List ℕ
+abbrev pub decimal_field : SignSetting → ℕ → ℕ → ℤ → ℕ → List ℕ
 decimal_field g w d u s = field g (F d) w (rounded_units u s d)
 
 -- the answer of writing it: whether the field is starred
-unfoldable pub put_decimal : Setting → ℕ → ℕ → ℤ → ℕ → Result Bool TooLarge
+unfoldable pub put_decimal : SignSetting → ℕ → ℕ → ℤ → ℕ → Result Bool TooLarge
 put_decimal g w d u s =
     cond (too_large u s d) (Err too_large_error) (Ok (starred g (F d) w (rounded_units u s d)))
 
 -- the part of the buffer that its field fills; refused, it is as it was
-unfoldable pub decimal_part : Setting → List ℕ → ℕ → ℤ → ℕ → List ℕ
+unfoldable pub decimal_part : SignSetting → List ℕ → ℕ → ℤ → ℕ → List ℕ
 decimal_part g part d u s = cond (too_large u s d) part (decimal_field g (length part) d u s)
 
 -- the buffer after writing it from offset at on; refused, it is as it was
-unfoldable pub after_decimal : Setting → List ℕ → ℕ → ℕ → ℕ → ℤ → ℕ → List ℕ
+unfoldable pub after_decimal : SignSetting → List ℕ → ℕ → ℕ → ℕ → ℤ → ℕ → List ℕ
 after_decimal g buffer at w d u s = cond (too_large u s d) buffer (splice buffer at (decimal_field g w d u s))
 
 -- what an answer means: the refusal's number in 'Checks by place', 0 for none, and the number of starred fields

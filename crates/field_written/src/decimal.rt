@@ -3,7 +3,7 @@
 ghost use Rattle.std.specs.Prelude.{◌≡◌, cond, ◌+◌, ◌/◌, ◌≤◌, ◌^◌, ltb, length, nat_abs};
 ghost use Rattle.number.specs.Limits.{largest, most_places};
 ghost use Rattle.number.specs.Digits.{digits_of};
-ghost use Rattle.field_written.specs.Numeral.{F, plain, sign_bytes, layout};
+ghost use Rattle.field_written.specs.Numeral.{F, sign_bytes, layout};
 ghost use Rattle.field_written.specs.Written.{fewest_columns, field_text, put_decimal, decimal_part};
 
 use crate::Sign;
@@ -13,8 +13,10 @@ use number::TooLarge;
 use number::put::put_digits;
 use number::rounding::round;
 use number::sign::stays_negative;
+use settings::SignSetting;
 
 // The sign of n, k digits, a point and d digits, from the last one on.
+#[inline(always)]
 fn put_numeral(part: &mut [u8], n: Signed, k: usize, d: usize)
     requires { length part.old ≡ length (sign_bytes n.sign) + k + 1 + d }
     ensures { part.new ≡ layout (F d) 0 n.sign (digits_of k (n.magnitude / 10 ^ d)) (digits_of d n.magnitude) }
@@ -29,6 +31,7 @@ fn put_numeral(part: &mut [u8], n: Signed, k: usize, d: usize)
 }
 
 // The digits before the point: where there are none, a zero if a column is free.
+#[inline(always)]
 fn shown_digits(few: usize, free: usize) -> usize
     ensures { result ≡ cond (ltb 0 few) few (cond (ltb 0 free) 1 0) }
 {
@@ -36,6 +39,7 @@ fn shown_digits(few: usize, free: usize) -> usize
 }
 
 // The numeral, right justified; it takes `need` columns at least, which are there.
+#[inline(always)]
 fn put_decimal(part: &mut [u8], need: usize, n: Signed, d: usize)
     requires room { need ≤ length part.old }
     requires needed { need ≡ fewest_columns (F d) n.sign n.magnitude }
@@ -49,19 +53,26 @@ fn put_decimal(part: &mut [u8], need: usize, n: Signed, d: usize)
     put_numeral(numeral, n, k, d);
 }
 
-// units / 10^places, rounded to d places, under Fw.d, w the columns of the part; whether the field is starred. (Units and places:
-// as in `number::rounding`.)
-pub fn write_decimal(part: &mut [u8], d: usize, units: i64, places: usize) -> Result<bool, TooLarge>
+// units / 10^places, rounded to d places, under Fw.d, w the columns of the part, and a setting; whether the field is starred. (Units
+// and places: as in `number::rounding`.)
+#[inline(always)]
+pub fn write_decimal(
+    part: &mut [u8],
+    d: usize,
+    units: i64,
+    places: usize,
+    setting: SignSetting,
+) -> Result<bool, TooLarge>
     requires wanted { d ≤ most_places }
     requires magnitude { nat_abs units ≤ largest }
     requires given { places ≤ most_places }
-    ensures answer { result ≡ put_decimal plain (length part.old) d units places }
-    ensures laid { part.new ≡ decimal_part plain part.old d units places }
+    ensures answer { result ≡ put_decimal setting (length part.old) d units places }
+    ensures laid { part.new ≡ decimal_part setting part.old d units places }
 {
     let negative = units.is_negative();
     let m = units.unsigned_abs();
     let v = round(m, places, d)?;
-    let sign = Sign::of_negative(stays_negative(negative, v));
+    let sign = Sign::of(setting, stays_negative(negative, v));
     let shown = Signed { sign, magnitude: v };
     let need = shown.decimal_columns(d);
     if part.len() < need {

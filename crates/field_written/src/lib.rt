@@ -9,6 +9,8 @@ pub mod logical;
 pub mod signed;
 pub mod text;
 
+use settings::SignSetting;
+
 // The sign in front of a numeral.
 #[derive(Clone, Copy, PartialEq, Eq, Debug)]
 pub enum Sign {
@@ -20,13 +22,19 @@ pub enum Sign {
 impl Sign {
     ghost use Rattle.std.specs.Prelude.{◌≡◌, ◌<◌, length};
     ghost use Rattle.field_written.specs.Numeral.{sign_bytes};
-    ghost use Rattle.field_written.specs.Written.{minus_if};
+    ghost use Rattle.field_written.specs.Written.{sign_if};
 
-    // A minus below zero, and no sign else.
-    pub fn of_negative(negative: bool) -> Sign
-        ensures { result ≡ minus_if negative }
+    // A minus below zero; else no sign, or after SP a plus.
+    pub fn of(setting: SignSetting, negative: bool) -> Sign
+        ensures { result ≡ sign_if setting negative }
     {
-        if negative { Sign::Minus } else { Sign::None }
+        if negative {
+            return Sign::Minus;
+        }
+        match setting {
+            SignSetting::AfterSS => Sign::None,
+            SignSetting::AfterSP => Sign::Plus,
+        }
     }
 
     // The columns that it takes.
@@ -47,8 +55,10 @@ impl Sign {
     {
         match self {
             Sign::None => {}
-            Sign::Plus => part[0] = b'+',
-            Sign::Minus => part[0] = b'-',
+            // One store for both, which takes fewer instructions.
+            Sign::Plus | Sign::Minus => {
+                part[0] = if self == Sign::Minus { b'-' } else { b'+' };
+            }
         }
     }
 }

@@ -12,6 +12,7 @@ fn letter_of(b: bool) -> u8
 
 // b under Lw, w the columns of the part.
 #[tactic(auto, unfolding(crate::specs::LogicalField::logical_field))]
+#[inline(always)]
 pub fn write_logical(part: &mut [u8], b: bool)
     requires { 1 ≤ length part.old }
     ensures { part.new ≡ logical_field (length part.old) b }

@@ -6,6 +6,7 @@ use crate::blanks::fill_blanks;
 
 // The text under Aw, w the columns of the part.
 #[tactic(auto, unfolding(crate::specs::TextField::text_field))]
+#[inline(always)]
 pub fn write_text(part: &mut [u8], text: &[u8])
     ensures { part.new ≡ text_field (length part.old) text.now }
 {

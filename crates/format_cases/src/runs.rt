@@ -3,6 +3,7 @@ use format_items::{LARGEST_SIZE, LONGEST_FORMAT};
 use format_load::load::load;
 use format_words::packed::Packed;
 use format_words::{Entry, Word};
+use settings::SettingItem;
 use std::io;
 
 // A literal's characters; none where they are not all there. They need be no text, so no `Display` can write them.
@@ -11,6 +12,15 @@ fn show_literal(rt: &impl Print, chars: &[u8], start: usize, len: usize) -> io::
     rt.write_all(b"<")?;
     rt.write_all(literal.unwrap_or(&[]))?;
     rt.write_all(b">")
+}
+
+// The letters of an item that sets how fields are written.
+fn show_setting(rt: &impl Print, item: SettingItem) -> io::Result<()> {
+    match item {
+        SettingItem::SP => print!(rt; "SP"),
+        SettingItem::SS => print!(rt; "SS"),
+        SettingItem::S => print!(rt; "S"),
+    }
 }
 
 // One item met.
@@ -28,6 +38,7 @@ fn show_word(rt: &impl Print, word: Word, chars: &[u8]) -> io::Result<()> {
         Word::Literal { start, len } => {
             show_literal(rt, chars, usize::from(start), usize::from(len))
         }
+        Word::Setting { item } => show_setting(rt, item),
     }
 }
 

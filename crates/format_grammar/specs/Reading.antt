@@ -122,6 +122,7 @@ unless_none (Items.X n xs) a = a
 unless_none (Items.T n xs) a = a
 unless_none (Items.slash r xs) a = a
 unless_none (Items.literal cs xs) a = a
+unless_none (Items.setting k xs) a = a
 
 -- the byte b, at `at`, after an item that a number ends
 abbrev pub after_number : Items → ℕ → ℕ → Items → Open → ℕ → State

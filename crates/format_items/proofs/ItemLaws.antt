@@ -14,6 +14,7 @@ join_assoc (Items.X n x) y z = ap (Items.X n) (join_assoc x y z)
 join_assoc (Items.T n x) y z = ap (Items.T n) (join_assoc x y z)
 join_assoc (Items.slash r x) y z = ap (Items.slash r) (join_assoc x y z)
 join_assoc (Items.literal cs x) y z = ap (Items.literal cs) (join_assoc x y z)
+join_assoc (Items.setting k x) y z = ap (Items.setting k) (join_assoc x y z)
 
 pub join_none : (x : Items) → join Items.none x ≡ x
 unfolding join
@@ -28,6 +29,7 @@ join_right (Items.X n x) = ap (Items.X n) (join_right x)
 join_right (Items.T n x) = ap (Items.T n) (join_right x)
 join_right (Items.slash r x) = ap (Items.slash r) (join_right x)
 join_right (Items.literal cs x) = ap (Items.literal cs) (join_right x)
+join_right (Items.setting k x) = ap (Items.setting k) (join_right x)
 
 pub numbers_join : (x y : Items) → numbers (join x y) ≡ numbers x ++ numbers y
 unfolding join numbers
@@ -38,3 +40,4 @@ numbers_join (Items.X n x) y = rw (numbers_join x y)
 numbers_join (Items.T n x) y = rw (numbers_join x y)
 numbers_join (Items.slash r x) y = rw (numbers_join x y) (sym (append_assoc (repeat_numbers r) (numbers x) (numbers y)))
 numbers_join (Items.literal cs x) y = numbers_join x y
+numbers_join (Items.setting k x) y = numbers_join x y

@@ -27,6 +27,7 @@ met_is_size (Items.X n xs) = rw (met_is_size xs) (omega arith)
 met_is_size (Items.T n xs) = rw (met_is_size xs) (omega arith)
 met_is_size (Items.slash r xs) = rw (length-append (replicate (times r) Met.slash) (met xs), length-replicate (times r) Met.slash, met_is_size xs)
 met_is_size (Items.literal cs xs) = rw (met_is_size xs) (omega arith)
+met_is_size (Items.setting k xs) = rw (met_is_size xs) (omega arith)
 
 pub met_join : (xs ys : Items) → met (join xs ys) ≡ met xs ++ met ys
 unfolding met join
@@ -37,6 +38,7 @@ met_join (Items.X n xs) ys = ap (Met.X (value_of n) ∷◌) (met_join xs ys)
 met_join (Items.T n xs) ys = ap (Met.T (value_of n) ∷◌) (met_join xs ys)
 met_join (Items.slash r xs) ys = rw (met_join xs ys) (sym (append_assoc (replicate (times r) Met.slash) (met xs) (met ys)))
 met_join (Items.literal cs xs) ys = ap (Met.literal cs ∷◌) (met_join xs ys)
+met_join (Items.setting k xs) ys = ap (Met.setting k ∷◌) (met_join xs ys)
 
 -- ---- the part to return to
 
@@ -76,6 +78,7 @@ last_group (Items.X n xs) e = further (Items.X n) xs (λ x y. refl) refl (last_g
 last_group (Items.T n xs) e = further (Items.T n) xs (λ x y. refl) refl (last_group xs e)
 last_group (Items.slash r xs) e = further (Items.slash r) xs (λ x y. refl) refl (last_group xs e)
 last_group (Items.literal cs xs) e = further (Items.literal cs) xs (λ x y. refl) refl (last_group xs e)
+last_group (Items.setting k xs) e = further (Items.setting k) xs (λ x y. refl) refl (last_group xs e)
 
 -- a group among the items is found
 group_found : (before : Items) (r : Repeat) (inside after : Items) → has_group (join before (Items.group r inside after)) ≡ true
@@ -87,6 +90,7 @@ group_found (Items.X n xs) r inside after = group_found xs r inside after
 group_found (Items.T n xs) r inside after = group_found xs r inside after
 group_found (Items.slash q xs) r inside after = group_found xs r inside after
 group_found (Items.literal cs xs) r inside after = group_found xs r inside after
+group_found (Items.setting k xs) r inside after = group_found xs r inside after
 
 no_group : (xs : Items) → has_group xs ≡ false → NoGroup xs
 no_group xs e before r inside after f = false≢true (sym e ∙ ap has_group f ∙ group_found before r inside after)

@@ -1,6 +1,7 @@
--- The rules, 'The format': items as a tree.
+-- The rules, 'The format' and 'Plus signs': items as a tree.
 -- Assumes nothing.
 use Rattle.std.specs.Prelude.{List, ℕ}
+use Rattle.settings.specs.declared.SettingItem.{SettingItem}
 
 -- r, w, d or n as it stands in a format: the offset of its first digit, and its value
 pub data Number : Type 0 where
@@ -31,8 +32,8 @@ pub data Field (N : Type 0) : Type 0 where
   Aw : (w : N) → Field N
 
 -- 'Item: a field, optionally with a repeat r before it; a group ( items ), optionally with r; nX; Tn; a slash, optionally
--- with r; a literal.' An item carries the items that follow it, so one item alone has `none` after it; `none` itself stands
--- for no item, of which no format is made ('one or more items').
+-- with r; a literal'; and 'SP, SS and S .. are items without repeat'. An item carries the items that follow it, so one item alone has
+-- `none` after it; `none` itself stands for no item, of which no format is made ('one or more items').
 pub data Items : Type 0 where
   none : Items
   field : (r : Repeat) → Field Number → (next : Items) → Items
@@ -41,6 +42,7 @@ pub data Items : Type 0 where
   T : (n : Number) → (next : Items) → Items
   slash : (r : Repeat) → (next : Items) → Items
   literal : (characters : List ℕ) → (next : Items) → Items
+  setting : (item : SettingItem) → (next : Items) → Items
 
 -- items, and others after them
 unfoldable pub join : Items → Items → Items
@@ -51,3 +53,4 @@ join (X n xs) ys = X n (join xs ys)
 join (T n xs) ys = T n (join xs ys)
 join (slash r xs) ys = slash r (join xs ys)
 join (literal cs xs) ys = literal cs (join xs ys)
+join (setting k xs) ys = setting k (join xs ys)

@@ -1,6 +1,7 @@
 -- The rules, 'The walk': the items met, and the part that the walk returns to.
 -- Assumes nothing.
 use Rattle.std.specs.Prelude.{Bool, true, false, cond, List, [], ◌∷◌, ◌++◌, ℕ, zero, suc, ◌-◌, length, replicate}
+use Rattle.settings.specs.declared.SettingItem.{SettingItem}
 use Rattle.format_items.specs.Items.{Number, value_of, times, Field, Items}
 
 -- an item met: no repeat, no group
@@ -10,6 +11,7 @@ pub data Met : Type 0 where
   T : (n : ℕ) → Met
   slash : Met
   literal : (characters : List ℕ) → Met
+  setting : (item : SettingItem) → Met
 
 -- a field with the values of its numbers
 abbrev pub field_values : Field Number → Field ℕ
@@ -33,6 +35,7 @@ met (Items.X n xs) = Met.X (value_of n) ∷ met xs
 met (Items.T n xs) = Met.T (value_of n) ∷ met xs
 met (Items.slash r xs) = replicate (times r) Met.slash ++ met xs
 met (Items.literal cs xs) = Met.literal cs ∷ met xs
+met (Items.setting k xs) = Met.setting k ∷ met xs
 
 -- a group stands among the items themselves (for a format's items: a group of level 1)
 unfoldable pub has_group : Items → Bool
@@ -43,6 +46,7 @@ has_group (Items.X n xs) = has_group xs
 has_group (Items.T n xs) = has_group xs
 has_group (Items.slash r xs) = has_group xs
 has_group (Items.literal cs xs) = has_group xs
+has_group (Items.setting k xs) = has_group xs
 
 -- 'the rightmost group of level 1 with its repeat, through the end of the format'
 unfoldable pub from_last_group : Items → Items
@@ -53,6 +57,7 @@ from_last_group (Items.X n xs) = from_last_group xs
 from_last_group (Items.T n xs) = from_last_group xs
 from_last_group (Items.slash r xs) = from_last_group xs
 from_last_group (Items.literal cs xs) = from_last_group xs
+from_last_group (Items.setting k xs) = from_last_group xs
 
 -- the part that the walk returns to (the law `ReturnPartIs` of `Promises`): 'with no such group, .. the whole format'
 unfoldable pub return_part : Items → Items

@@ -19,6 +19,7 @@ MetWithin (Met.X n) = Within (range_n (number 0 n))
 MetWithin (Met.T n) = Within (range_n (number 0 n))
 MetWithin Met.slash = Unit {0}
 MetWithin (Met.literal cs) = (0 < length cs) × Printable cs
+MetWithin (Met.setting k) = Unit {0}
 
 -- every item met is so
 abbrev pub AllMetWithin : List Met → Type 0
@@ -41,6 +42,7 @@ MetWithin-prop (Met.X n) = ×_prop le_prop le_prop
 MetWithin-prop (Met.T n) = ×_prop le_prop le_prop
 MetWithin-prop Met.slash = Unit-prop
 MetWithin-prop (Met.literal cs) = ×_prop le_prop (Printable-prop cs)
+MetWithin-prop (Met.setting k) = Unit-prop
 
 pub AllMetWithin-prop : (ks : List Met) → IsProp (AllMetWithin ks)
 AllMetWithin-prop [] = Unit-prop

@@ -1,7 +1,7 @@
 -- The rules, 'The format': 'Ranges: r, and n in X and T, 1 to 255; w 1 to 64; d 0 to 9.'
 -- Assumes nothing.
 use Rattle.std.specs.Prelude.{Bool, ◌||◌, cond, List, [], ◌∷◌, ◌++◌, ℕ, ◌≤◌, ltb, Option, Some, None}
-use Rattle.format_items.specs.Items.{Number, offset, value_of, Repeat, absent, given, Field, I, F, L, A, Aw, Items, none, field, group, X, T, slash, literal}
+use Rattle.format_items.specs.Items.{Number, offset, value_of, Repeat, absent, given, Field, I, F, L, A, Aw, Items, none, field, group, X, T, slash, literal, setting}
 
 -- a number and its range, both ends included
 pub data Ranged : Type 0 where
@@ -43,6 +43,7 @@ numbers (X n xs) = range_n n ∷ numbers xs
 numbers (T n xs) = range_n n ∷ numbers xs
 numbers (slash r xs) = repeat_numbers r ++ numbers xs
 numbers (literal cs xs) = numbers xs
+numbers (setting k xs) = numbers xs
 
 -- a number is within its range
 abbrev pub Within : Ranged → Type 0

@@ -1,7 +1,7 @@
--- The rules, 'The format': the size.
+-- The rules, 'The format': the size; and 'Plus signs': 'SP, SS and S .. are items .. of size 1'.
 -- Assumes nothing.
 use Rattle.std.specs.Prelude.{ℕ, ◌+◌, ◌*◌}
-use Rattle.format_items.specs.Items.{times, Items, none, field, group, X, T, slash, literal}
+use Rattle.format_items.specs.Items.{times, Items, none, field, group, X, T, slash, literal, setting}
 
 -- 'The size of a group is r times the sum of its items' sizes; a field or slash has size r, other items size 1. The format's
 -- size is the sum over its items'
@@ -13,6 +13,7 @@ size (X n xs) = 1 + size xs
 size (T n xs) = 1 + size xs
 size (slash r xs) = times r + size xs
 size (literal cs xs) = 1 + size xs
+size (setting k xs) = 1 + size xs
 
 -- 'at most 4,096'
 abbrev pub largest_size : ℕ

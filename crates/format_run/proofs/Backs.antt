@@ -25,6 +25,7 @@ last_size (Items.X n xs) = omega (arith, last_size xs)
 last_size (Items.T n xs) = omega (arith, last_size xs)
 last_size (Items.slash r xs) = omega (arith, last_size xs)
 last_size (Items.literal cs xs) = omega (arith, last_size xs)
+last_size (Items.setting k xs) = omega (arith, last_size xs)
 
 -- with a group among the items, and without one
 index_some : (xs : Items) → has_group xs ≡ true → return_index xs ≡ size xs - size (from_last_group xs)

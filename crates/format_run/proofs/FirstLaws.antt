@@ -28,6 +28,7 @@ first_adds First.X = record { size_is = refl; met_is = refl; group_is = refl; la
 first_adds First.T = record { size_is = refl; met_is = refl; group_is = refl; last_is = refl }
 first_adds First.slash = record { size_is = refl; met_is = refl; group_is = refl; last_is = refl }
 first_adds First.literal = record { size_is = refl; met_is = refl; group_is = refl; last_is = refl }
+first_adds First.setting = record { size_is = refl; met_is = refl; group_is = refl; last_is = refl }
 
 pub repeat_one : {A : Type 0} (r : ℕ) (k : A) → repeat r (k ∷ []) ≡ replicate r k
 unfolding repeat
@@ -45,6 +46,7 @@ some_first First.X h = omega arith
 some_first First.T h = omega arith
 some_first (First.slash {r} {xs}) h = times_some r (within_left (repeat_numbers r) (numbers xs) h)
 some_first First.literal h = omega arith
+some_first First.setting h = omega arith
 
 pub within_first : {xs next : Items} {r : ℕ} {k : Met} → First xs r k next → AllWithin (numbers xs) → AllWithin (numbers next)
 unfolding numbers
@@ -53,6 +55,7 @@ within_first First.X h = h.1
 within_first First.T h = h.1
 within_first (First.slash {r} {xs}) h = within_right (repeat_numbers r) (numbers xs) h
 within_first First.literal h = h
+within_first First.setting h = h
 
 -- ---- a group
 

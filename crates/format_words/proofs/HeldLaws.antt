@@ -21,6 +21,7 @@ first_join ys First.X = First.X
 first_join ys First.T = First.T
 first_join ys First.slash = First.slash
 first_join ys First.literal = First.literal
+first_join ys First.setting = First.setting
 
 pub holds_join : {t : List ℕ} {c l : ℕ} {es fs : List Entry} {xs ys : Items} → Holds t c l es xs → Holds t c l fs ys → Holds t c l (es ++ fs) (join xs ys)
 unfolding join
@@ -47,6 +48,7 @@ met_kept (word.X n) c t u h e = refl
 met_kept (word.T n) c t u h e = refl
 met_kept word.Slash c t u h e = refl
 met_kept (word.Literal a n) c t u h e = ap Met.literal (slice_kept a n c t u h e)
+met_kept (word.Setting k) c t u h e = refl
 
 -- further characters may change
 pub holds_kept : {t u : List ℕ} {c d l : ℕ} {es : List Entry} {xs : Items} → Holds t c l es xs → take c u ≡ take c t → c ≤ d → Holds u d l es xs

@@ -1,6 +1,7 @@
 -- The items that entries hold.
 -- Assumes nothing.
 use Rattle.std.specs.Prelude.{◌≡◌, List, [], ◌∷◌, ◌++◌, ℕ, ◌+◌, length}
+use Rattle.settings.specs.declared.SettingItem.{SettingItem}
 use Rattle.format_items.specs.Items.{Number, value_of, Repeat, times, Field, Items}
 use Rattle.format_items.specs.Met.{Met, field_values}
 use Rattle.format_words.specs.Words.{met_in, RunPacked}
@@ -15,6 +16,7 @@ pub data First : Items → ℕ → Met → Items → Type 0 where
   T : {n : Number} {xs : Items} → First (Items.T n xs) 1 (Met.T (value_of n)) xs
   slash : {r : Repeat} {xs : Items} → First (Items.slash r xs) (times r) Met.slash xs
   literal : {cs : List ℕ} {xs : Items} → First (Items.literal cs xs) 1 (Met.literal cs) xs
+  setting : {k : SettingItem} {xs : Items} → First (Items.setting k xs) 1 (Met.setting k) xs
 
 -- the entries hold the items, in which l levels of groups may open; the characters of literals are among the first c of t
 pub data Holds (t : List ℕ) (c : ℕ) : ℕ → List Entry → Items → Type 0 where

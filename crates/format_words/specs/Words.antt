@@ -19,6 +19,7 @@ met_of t (word.X n) = Met.X n
 met_of t (word.T n) = Met.T n
 met_of t word.Slash = Met.slash
 met_of t (word.Literal start n) = Met.literal (take n (drop start t))
+met_of t (word.Setting item) = Met.setting item
 
 -- that for which a packed word stands
 abbrev pub met_in : List ℕ → Packed → Met
@@ -35,6 +36,7 @@ reach (word.X n) = 0
 reach (word.T n) = 0
 reach word.Slash = 0
 reach (word.Literal start n) = start + n
+reach (word.Setting item) = 0
 
 -- a literal's characters are among the first c
 abbrev pub RunWord : ℕ → Word → Type 0

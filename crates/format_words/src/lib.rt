@@ -5,6 +5,7 @@ pub mod packed;
 pub mod run;
 
 use crate::packed::Packed;
+use settings::SettingItem;
 
 // An item met. The numbers of a literal are the offset and the count of its characters, which are kept beside the words.
 #[derive(Clone, Copy, PartialEq, Eq, Debug)]
@@ -18,6 +19,7 @@ pub enum Word {
     T { column: u16 },
     Slash,
     Literal { start: u16, len: u16 },
+    Setting { item: SettingItem },
 }
 
 // An item with its repeat; or a group with its repeat, whose items are held by so many of the entries after it. (Fixed memory, a

@@ -3,12 +3,36 @@ ghost use Rattle.std.specs.Prelude.{◌≡◌, ◌<◌, leb};
 ghost use Rattle.format_words.specs.Packing.{word_of, word_in, detail_of, literal_kind, kind_in, detail_in, columns_in};
 
 use crate::Word;
+use settings::SettingItem;
 
-// The kind of a literal's words, the highest.
-const LITERAL: u32 = 8;
+// The kinds of words. Those of fields that have a width are the lowest, in the order of the kinds of elements that suit them; that of
+// literals is the highest, so that kinds can be added between.
+pub const I_KIND: u32 = 0;
 
-// A word: its kind, then a small number (the places of an F, where a literal starts), then a number of columns (a width, n of X,
-// a literal's length; of T, the column itself).
+pub const F_KIND: u32 = 1;
+
+pub const L_KIND: u32 = 2;
+
+pub const AW_KIND: u32 = 3;
+
+const A_KIND: u32 = 4;
+
+const X_KIND: u32 = 5;
+
+const T_KIND: u32 = 6;
+
+const SP_KIND: u32 = 7;
+
+const SS_KIND: u32 = 8;
+
+const S_KIND: u32 = 9;
+
+const SLASH_KIND: u32 = 14;
+
+const LITERAL_KIND: u32 = 15;
+
+// A word: a number of columns (a width, n of X, a literal's length; of T, the column itself), then a small number (the places of an F,
+// where a literal starts), then its kind, highest: so one comparison tells a literal, and columns need no division.
 #[derive(Clone, Copy, PartialEq, Eq, Debug)]
 pub struct Packed {
     bits: u32,
@@ -25,7 +49,7 @@ impl Packed {
         ensures { word_in result ≡ word_of kind detail columns }
     {
         Packed {
-            bits: kind + 16 * u32::from(detail) + 65536 * u32::from(columns),
+            bits: u32::from(columns) + 65536 * (u32::from(detail) + 4096 * kind),
         }
     }
 
@@ -36,15 +60,24 @@ impl Packed {
         ensures { word_in result ≡ word }
     {
         match word {
-            Word::I { width } => Packed::made(0, 0, width),
-            Word::F { width, places } => Packed::made(1, places, width),
-            Word::L { width } => Packed::made(2, 0, width),
-            Word::Aw { width } => Packed::made(3, 0, width),
-            Word::A => Packed::made(4, 0, 0),
-            Word::X { count } => Packed::made(5, 0, count),
-            Word::T { column } => Packed::made(6, 0, column),
-            Word::Slash => Packed::made(7, 0, 0),
-            Word::Literal { start, len } => Packed::made(LITERAL, start, len),
+            Word::I { width } => Packed::made(I_KIND, 0, width),
+            Word::F { width, places } => Packed::made(F_KIND, places, width),
+            Word::L { width } => Packed::made(L_KIND, 0, width),
+            Word::Aw { width } => Packed::made(AW_KIND, 0, width),
+            Word::A => Packed::made(A_KIND, 0, 0),
+            Word::X { count } => Packed::made(X_KIND, 0, count),
+            Word::T { column } => Packed::made(T_KIND, 0, column),
+            Word::Setting {
+                item: SettingItem::SP,
+            } => Packed::made(SP_KIND, 0, 0),
+            Word::Setting {
+                item: SettingItem::SS,
+            } => Packed::made(SS_KIND, 0, 0),
+            Word::Setting {
+                item: SettingItem::S,
+            } => Packed::made(S_KIND, 0, 0),
+            Word::Slash => Packed::made(SLASH_KIND, 0, 0),
+            Word::Literal { start, len } => Packed::made(LITERAL_KIND, start, len),
         }
     }
 
@@ -54,7 +87,7 @@ impl Packed {
     pub fn kind(self) -> u32
         ensures { result ≡ kind_in self }
     {
-        self.bits % 16
+        self.bits / 65536 / 4096
     }
 
     // Whether it is that of a literal.
@@ -62,7 +95,7 @@ impl Packed {
     pub fn is_literal(self) -> bool
         ensures { result ≡ leb literal_kind (kind_in self) }
     {
-        LITERAL <= self.kind()
+        LITERAL_KIND <= self.kind()
     }
 
     // Its small number.
@@ -71,7 +104,7 @@ impl Packed {
     pub fn detail(self) -> usize
         ensures { result ≡ detail_in self }
     {
-        (self.bits / 16 % 4096) as usize
+        (self.bits / 65536 % 4096) as usize
     }
 
     // Its number of columns.
@@ -80,7 +113,7 @@ impl Packed {
     pub fn columns(self) -> usize
         ensures { result ≡ columns_in self }
     {
-        (self.bits / 65536) as usize
+        (self.bits % 65536) as usize
     }
 
     // The word that is packed.
@@ -89,25 +122,34 @@ impl Packed {
     pub fn word(self) -> Word
         ensures { result ≡ word_in self }
     {
-        let detail = (self.bits / 16 % 4096) as u16;
-        let columns = (self.bits / 65536) as u16;
-        match self.bits % 16 {
-            0 => Word::I { width: columns },
-            1 => Word::F {
+        let detail = (self.bits / 65536 % 4096) as u16;
+        let columns = (self.bits % 65536) as u16;
+        match self.bits / 65536 / 4096 {
+            I_KIND => Word::I { width: columns },
+            F_KIND => Word::F {
                 width: columns,
                 places: detail,
             },
-            2 => Word::L { width: columns },
-            3 => Word::Aw { width: columns },
-            4 => Word::A,
-            5 => Word::X { count: columns },
-            6 => Word::T { column: columns },
-            7 => Word::Slash,
-            // LITERAL; no higher kind is made.
-            _ => Word::Literal {
+            L_KIND => Word::L { width: columns },
+            AW_KIND => Word::Aw { width: columns },
+            A_KIND => Word::A,
+            X_KIND => Word::X { count: columns },
+            T_KIND => Word::T { column: columns },
+            SP_KIND => Word::Setting {
+                item: SettingItem::SP,
+            },
+            SS_KIND => Word::Setting {
+                item: SettingItem::SS,
+            },
+            S_KIND => Word::Setting {
+                item: SettingItem::S,
+            },
+            LITERAL_KIND => Word::Literal {
                 start: detail,
                 len: columns,
             },
+            // SLASH_KIND; no other kind is made.
+            _ => Word::Slash,
         }
     }
 }

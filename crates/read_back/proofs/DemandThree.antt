@@ -7,6 +7,7 @@ use mathlib.Core.List.{map}
 use Prim.Native.Nat.{ℕ, ◌≤◌}
 use native.Mathlib.Omega.{arith}
 use lib.ListN.{length, length-map}
+use Rattle.settings.specs.declared.Settings.{Settings}
 use Rattle.format_items.specs.Items.{Field}
 use Rattle.list_elements.specs.Elements.{kind_of, values, most_elements}
 use Rattle.list_elements.specs.Limits.{within_limits, texts_length}
@@ -44,7 +45,7 @@ counted_alike (Counted.counts {p} a rest) s = Counted.counts ((s p here).0 a) (c
 counted_alike (Counted.passes {p} a rest) s = Counted.passes (λ q. a ((s p here).1 q)) (counted_alike rest (λ q m. s q (there m)))
 
 -- only a numeric field has no numeral
-none_numeric : {v : Value} {f : Field ℕ} → NoNumeral v f → numeric f ≡ true
+none_numeric : {g : Settings} {v : Value} {f : Field ℕ} → NoNumeral g v f → numeric f ≡ true
 none_numeric (NoNumeral.integer e none) = refl
 none_numeric (NoNumeral.decimal e none) = refl
 

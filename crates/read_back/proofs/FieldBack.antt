@@ -9,7 +9,8 @@ use lib.IntN.{ℤ}
 use lib.ListN.{length, replicate}
 use Rattle.buffer.specs.Characters.{asterisk, all_printable}
 use Rattle.number.specs.Rounding.{rounded_units, too_large}
-use Rattle.field_written.specs.Numeral.{Numeric, plain}
+use Rattle.settings.specs.declared.Settings.{Settings}
+use Rattle.field_written.specs.Numeral.{Numeric}
 use Rattle.field_written.specs.Written.{field, decimal_field, put_decimal}
 use Rattle.field_written.specs.TextField.{text_field}
 use Rattle.field_written.proofs.Promises.{starred_is}
@@ -105,43 +106,43 @@ text_given_lem m w bytes l p =
     rw (r.0, ← l) (ap (λ (shows : List ℕ). gives (text shows)) r.1)
 
 -- the field gives the shown value
-given_back : (area : List ℕ) {f : Field ℕ} {v : Value} (w : ℕ) → Suiting f v → Fits area v f w → field_starred f w v ≡ false
-    → field_gives f (kind_of v) (field_characters area f w v) ≡ gives (shown f w (content_of area v))
+given_back : (area : List ℕ) (g : Settings) {f : Field ℕ} {v : Value} (w : ℕ) → Suiting f v → Fits area v f w → field_starred g f w v ≡ false
+    → field_gives f (kind_of v) (field_characters area g f w v) ≡ gives (shown f w (content_of area v))
 unfolding field_gives field_characters field_too_large field_starred put_decimal
-given_back area w (Suiting.integer-I {n}) s e =
-    integer_given_lem (read_field Numeric.I (field plain Numeric.I w n)) n 0 (integer_reads_back plain w n (within_integer area n s.good) e)
-given_back area w (Suiting.decimal-F {x} {d}) s e =
+given_back area g w (Suiting.integer-I {n}) s e =
+    integer_given_lem (read_field Numeric.I (field g.signs Numeric.I w n)) n 0 (integer_reads_back g.signs w n (within_integer area n s.good) e)
+given_back area g w (Suiting.decimal-F {x} {d}) s e =
     let small : too_large x.units x.places d ≡ false = s.small in
-    decimal_given_lem (read_field (Numeric.F d) (decimal_field plain w d x.units x.places)) (rounded_units x.units x.places d) d
-    (decimal_reads_back plain w d x.units x.places (omega (arith, s.ranges.1)) (rw small) (rw (small, e)))
-given_back area w (Suiting.logical-L {b}) s e = rw (logical_reads_back w b (omega (arith, s.wide, s.ranges)))
-given_back area w (Suiting.text-A {t}) s e =
+    decimal_given_lem (read_field (Numeric.F d) (decimal_field g.signs w d x.units x.places)) (rounded_units x.units x.places d) d
+    (decimal_reads_back g.signs w d x.units x.places (omega (arith, s.ranges.1)) (rw small) (rw (small, e)))
+given_back area g w (Suiting.logical-L {b}) s e = rw (logical_reads_back w b (omega (arith, s.wide, s.ranges)))
+given_back area g w (Suiting.text-A {t}) s e =
     let l = within_text area t s.good in
     text_given_lem t.len w (text_bytes area t) l.long l.printable
-given_back area w (Suiting.text-Aw {t}) s e =
+given_back area g w (Suiting.text-Aw {t}) s e =
     let l = within_text area t s.good in
     text_given_lem t.len w (text_bytes area t) l.long l.printable
 
 -- ---- where it is starred
 
 -- a starred field is numeric, and asterisks
-pub starred_stars : (area : List ℕ) (f : Field ℕ) (w : ℕ) (v : Value) → field_starred f w v ≡ true → (numeric f ≡ true) × (field_characters area f w v ≡ replicate w asterisk)
+pub starred_stars : (area : List ℕ) (g : Settings) (f : Field ℕ) (w : ℕ) (v : Value) → field_starred g f w v ≡ true → (numeric f ≡ true) × (field_characters area g f w v ≡ replicate w asterisk)
 unfolding field_starred field_characters
-starred_stars area (Field.I u) w v e = (refl, (starred_is plain Numeric.I w (integer_of v)).0 e)
-starred_stars area (Field.F u d) w v e =
-    (refl, (starred_is plain (Numeric.F d) w (rounded_units (decimal_of v).units (decimal_of v).places d)).0 e)
-starred_stars area (Field.L u) w v e = no_way e
-starred_stars area Field.A w v e = no_way e
-starred_stars area (Field.Aw u) w v e = no_way e
+starred_stars area g (Field.I u) w v e = (refl, (starred_is g.signs Numeric.I w (integer_of v)).0 e)
+starred_stars area g (Field.F u d) w v e =
+    (refl, (starred_is g.signs (Numeric.F d) w (rounded_units (decimal_of v).units (decimal_of v).places d)).0 e)
+starred_stars area g (Field.L u) w v e = no_way e
+starred_stars area g Field.A w v e = no_way e
+starred_stars area g (Field.Aw u) w v e = no_way e
 
 -- and the other way round
-pub stars_starred : (area : List ℕ) (f : Field ℕ) (w : ℕ) (v : Value) → numeric f ≡ true → field_characters area f w v ≡ replicate w asterisk → field_starred f w v ≡ true
+pub stars_starred : (area : List ℕ) (g : Settings) (f : Field ℕ) (w : ℕ) (v : Value) → numeric f ≡ true → field_characters area g f w v ≡ replicate w asterisk → field_starred g f w v ≡ true
 unfolding field_starred field_characters
-stars_starred area (Field.I u) w v n e = (starred_is plain Numeric.I w (integer_of v)).1 e
-stars_starred area (Field.F u d) w v n e = (starred_is plain (Numeric.F d) w (rounded_units (decimal_of v).units (decimal_of v).places d)).1 e
-stars_starred area (Field.L u) w v n e = no_way n
-stars_starred area Field.A w v n e = no_way n
-stars_starred area (Field.Aw u) w v n e = no_way n
+stars_starred area g (Field.I u) w v n e = (starred_is g.signs Numeric.I w (integer_of v)).1 e
+stars_starred area g (Field.F u d) w v n e = (starred_is g.signs (Numeric.F d) w (rounded_units (decimal_of v).units (decimal_of v).places d)).1 e
+stars_starred area g (Field.L u) w v n e = no_way n
+stars_starred area g Field.A w v n e = no_way n
+stars_starred area g (Field.Aw u) w v n e = no_way n
 
 -- asterisks under a numeric field give nothing
 stars_nothing : (f : Field ℕ) (k : Kind) (w : ℕ) → numeric f ≡ true → MetWithin (Met.field f) → w ≡ field_width f k → field_gives f k (replicate w asterisk) ≡ nothing
@@ -156,15 +157,15 @@ stars_nothing (Field.Aw u) k w n m e = no_way n
 
 -- ---- in both cases
 
-pub field_back : (area : List ℕ) (f : Field ℕ) (v : Value) (w : ℕ) → Fits area v f w
-    → field_gives f (kind_of v) (field_characters area f w v) ≡ cond (field_starred f w v) nothing (gives (shown f w (content_of area v)))
-field_back area f v w s = go (field_starred f w v) refl
+pub field_back : (area : List ℕ) (g : Settings) (f : Field ℕ) (v : Value) (w : ℕ) → Fits area v f w
+    → field_gives f (kind_of v) (field_characters area g f w v) ≡ cond (field_starred g f w v) nothing (gives (shown f w (content_of area v)))
+field_back area g f v w s = go (field_starred g f w v) refl
   where
-    go : (b : Bool) → field_starred f w v ≡ b → field_gives f (kind_of v) (field_characters area f w v) ≡ cond b nothing (gives (shown f w (content_of area v)))
+    go : (b : Bool) → field_starred g f w v ≡ b → field_gives f (kind_of v) (field_characters area g f w v) ≡ cond b nothing (gives (shown f w (content_of area v)))
     go true e =
-        let st = starred_stars area f w v e in
+        let st = starred_stars area g f w v e in
         ap (field_gives f (kind_of v)) st.1 ∙ stars_nothing f (kind_of v) w st.0 s.ranges s.wide
-    go false e = given_back area w (suiting f v s.suited) s e
+    go false e = given_back area g w (suiting f v s.suited) s e
 
 -- ---- the shown value is of the value's kind
 

@@ -71,15 +71,15 @@ module _ (c : writing.Call) where
   pub test_starred : (p : Placement) → is_starred (values_of c) p ≡ true → StarredField c p
   test_starred p = go p.what refl
     where
-      go : (what : What) → p.what ≡ what → starred_of (values_of c) p.width what ≡ true → StarredField c p
+      go : (what : What) → p.what ≡ what → starred_of (values_of c) p.settings p.width what ≡ true → StarredField c p
       go (element i f) q e =
-          let s = starred_stars c.area f p.width (value_at (values_of c) i) e in
+          let s = starred_stars c.area p.settings f p.width (value_at (values_of c) i) e in
           (i, record { f = f; is = q; is_numeric = s.0; asterisks = rw q s.1 })
       go (literal cs) q e = no_way e
 
   pub starred_test : (p : Placement) (i : ℕ) → Starred c i p → is_starred (values_of c) p ≡ true
   starred_test p i s =
-      rw s.is (stars_starred c.area s.f p.width (value_at (values_of c) i) s.is_numeric (rw s.is at s.asterisks))
+      rw s.is (stars_starred c.area p.settings s.f p.width (value_at (values_of c) i) s.is_numeric (rw s.is at s.asterisks))
 
   -- ---- the first starred one on the walk, that of element i
 
@@ -122,7 +122,7 @@ module _ (c : writing.Call) where
     abbrev pub Back : Placement → Type 0
     Back p =
         (i : ℕ) (f : Field ℕ) → p.what ≡ element i f
-        → field_gives f (kind_at kinds i) (columns R p records) ≡ cond (field_starred f p.width (value_at (values_of c) i)) nothing (gives (shown_at p i f))
+        → field_gives f (kind_at kinds i) (columns R p records) ≡ cond (field_starred p.settings f p.width (value_at (values_of c) i)) nothing (gives (shown_at p i f))
 
     -- what a placement that is not starred puts in front of what follows
     abbrev before : Placement → What → Gathered → Gathered
@@ -133,7 +133,7 @@ module _ (c : writing.Call) where
         → what_gathered R kinds records p p.what rest ≡ before p p.what rest
     unstarred_front p b e rest = go p.what refl e
       where
-        go : (what : What) → p.what ≡ what → starred_of (values_of c) p.width what ≡ false → what_gathered R kinds records p what rest ≡ before p what rest
+        go : (what : What) → p.what ≡ what → starred_of (values_of c) p.settings p.width what ≡ false → what_gathered R kinds records p what rest ≡ before p what rest
         go (element i f) q u = ap (λ g. element_gathered i g rest) (b i f q ∙ ap (λ k. cond k nothing (gives (shown_at p i f))) u)
         go (literal cs) q u = refl
 
@@ -160,7 +160,7 @@ module _ (c : writing.Call) where
     pub gathered_first : {i : ℕ} {t : Trace} → FirstOn i t → ((p : Placement) → In p t → Back p) → gathered R kinds records t ≡ refused (FieldText i)
     unfolding gathered
     gathered_first {i} (FirstOn.front {p} {t} s) all =
-        let u : field_starred s.f p.width (value_at (values_of c) i) ≡ true = rw s.is at (starred_test p i s) in
+        let u : field_starred p.settings s.f p.width (value_at (values_of c) i) ≡ true = rw s.is at (starred_test p i s) in
         ap (λ what. what_gathered R kinds records p what (gathered R kinds records t)) s.is
         ∙ ap (λ g. element_gathered i g (gathered R kinds records t)) (all p here i s.f s.is ∙ ap (λ k. cond k nothing (gives (shown_at p i s.f))) u)
     gathered_first {i} (FirstOn.later {p} {t} u f) all =

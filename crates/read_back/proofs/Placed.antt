@@ -107,4 +107,4 @@ module _ (c : writing.Call) (t : Trace) (e : Accepted c t) where
       -- and give back the shown value, or nothing where the field is starred
       pub all_back : (p : Placement) → In p t → Back c c.R (map kind_of (values_of c)) records p
       all_back p m i f q =
-          rw (kind_at_lem (values_of c) i, columns_put p m, q) (field_back c.area f (value_at (values_of c) i) p.width (fits p m i f q))
+          rw (kind_at_lem (values_of c) i, columns_put p m, q) (field_back c.area p.settings f (value_at (values_of c) i) p.width (fits p m i f q))

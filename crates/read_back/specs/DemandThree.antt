@@ -1,4 +1,4 @@
--- The rules, 'Stars and reading back', word by word, over the walk and the numerals.
+-- The rules, 'Stars and reading back', word by word, over the walk and the numerals that the settings permit ('Plus signs').
 -- Assumes nothing.
 use Rattle.std.specs.Prelude.{◌≡◌, ◌↔◌, true, List, [], ◌∷◌, ◌++◌, map, ℕ, ◌*◌, ◌≤◌, length, take, get_or, replicate}
 use Rattle.buffer.specs.Characters.{asterisk}
@@ -88,9 +88,10 @@ ShownEach =
 
 pub record DemandThree : Type 0 where
   -- 'In every accepted writing, whatever the format, list, record width and buffer, a numeric field puts asterisks in all its
-  -- columns, overwritten later or not, exactly when no numeral of its width stands for the value rounded as its descriptor says.'
+  -- columns, overwritten later or not, exactly when no numeral of its width stands for the value rounded as its descriptor says'; 'the
+  -- asterisk rule is read with the numerals that the setting permits'
   pub exactly_when : (c : writing.Call) (t : Trace) → Accepted c t → (p : Placement) → In p t → (i : ℕ) (f : Field ℕ) → p.what ≡ element i f
-      → numeric f ≡ true → (puts c p ≡ replicate p.width asterisk) ↔ NoNumeral (value_at (values_of c) i) f
+      → numeric f ≡ true → (puts c p ≡ replicate p.width asterisk) ↔ NoNumeral p.settings (value_at (values_of c) i) f
   -- 'The starred number in the result is the number of these fields.'
   pub their_number : (c : writing.Call) (t : Trace) → Accepted c t → Counted (StarredField c) t (starred_number c)
   -- 'If no field is starred, reading gives exactly the whole list of shown values and the same number of records.'

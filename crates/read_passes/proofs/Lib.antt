@@ -4,3 +4,4 @@ pub mod OrderLaws
 pub mod FindLaws
 pub mod PassLaws
 pub mod GiveLaws
+pub mod SettingLaws

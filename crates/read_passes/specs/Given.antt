@@ -39,7 +39,7 @@ logical_given None = nothing
 abbrev pub text_given : ℕ → List ℕ → Given
 text_given m t = cond (text_readable t) (gives (text (text_read m t))) nothing
 
--- the field t, for an element of the kind k
+-- the field t, for an element of the kind k. ('Reading ignores the setting': none is given here; the law `SettingIgnored` of `Promises`.)
 unfoldable pub field_gives : Field ℕ → Kind → List ℕ → Given
 field_gives (Field.I _) k t = integer_given (read_field Numeric.I t)
 field_gives (Field.F _ d) k t = decimal_given (read_field (Numeric.F d) t)

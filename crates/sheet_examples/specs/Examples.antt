@@ -3,7 +3,8 @@
 use Rattle.std.specs.Prelude.{◌≡◌, cond, List, [], ◌∷◌, map, ℕ, eqb, length, replicate, ℤ, pos, neg_ℤ, None}
 use Prim.Native.String.{String}
 use Rattle.buffer.specs.Characters.{blank, bytes}
-use Rattle.field_written.specs.Numeral.{I, F, plain}
+use Rattle.settings.specs.declared.SignSetting.TheVariants.{AfterSS}
+use Rattle.field_written.specs.Numeral.{I, F}
 use Rattle.field_written.specs.Written.{field, starred, put_decimal, decimal_part, put_starred}
 use Rattle.field_read.specs.Read.{read_field, read_refusal, read_units, read_places}
 
@@ -21,8 +22,8 @@ pub data Answer : Type 0 where
 
 -- by the definitions: the field, a decimal's in w blanks; the field read
 unfoldable pub computed : Example → Answer
-computed (integer w n t k) = writes (field plain I w n) (cond (starred plain I w n) 1 0)
-computed (decimal w d u s t k) = writes (decimal_part plain (replicate w blank) d u s) (put_starred (put_decimal plain w d u s))
+computed (integer w n t k) = writes (field AfterSS I w n) (cond (starred AfterSS I w n) 1 0)
+computed (decimal w d u s t k) = writes (decimal_part AfterSS (replicate w blank) d u s) (put_starred (put_decimal AfterSS w d u s))
 computed (read w d t u s) =
     let r = cond (eqb (length (bytes t)) w) (read_field (F d) (bytes t)) None in
     reads (read_refusal r) (read_units r) (read_places r)

@@ -11,7 +11,7 @@ use lib.ListN.{length, drop}
 use Rattle.format_items.specs.Items.{Field}
 use Rattle.format_items.specs.Met.{Met}
 use Rattle.list_elements.specs.Elements.{Kind}
-use Rattle.sheet_walk.specs.Steps.{Records, Step, moves, covers, refused, ends, state, start, field_step, next_record, step, has_field, end_step}
+use Rattle.sheet_walk.specs.Steps.{Records, Step, moves, covers, refused, ends, to_next_record, start, field_step, next_record, step, has_field, end_step}
 use Rattle.sheet_walk.specs.Walk.{Sheet, Trace, put, after, pass, returns, at_end, walk}
 use Rattle.sheet_walk.specs.Promises.{EndsWith, RecordsBeyond}
 use Rattle.sheet_walk.specs.declared.Refusal.TheVariants as refusal
@@ -80,7 +80,7 @@ module _ (h : Sheet) (n m : ℕ) (more : n ≤ m) where
   next_agrees s f g r a = go (ltb (s.row + 1) rs.count)
     where
       to : State
-      to = state (s.row + 1) 1 s.taken
+      to = to_next_record s
 
       go : (b : Bool) → EndsWith n (after (cond b (moves to) (refused (refusal.NextRecord s.taken))) s f)
           → after (next_record others s) s g ≡ after (cond b (moves to) (refused (refusal.NextRecord s.taken))) s f
@@ -103,6 +103,7 @@ module _ (h : Sheet) (n m : ℕ) (more : n ≤ m) where
   item_agrees (Met.T k) s f g r a e = step_agrees (step h.kinds rs (Met.T k) s) s f g a e
   item_agrees Met.slash s f g r a e = next_agrees s f g r a e
   item_agrees (Met.literal cs) s f g r a e = step_agrees (step h.kinds rs (Met.literal cs) s) s f g a e
+  item_agrees (Met.setting k) s f g r a e = step_agrees (step h.kinds rs (Met.setting k) s) s f g a e
 
   pass_agrees : (f g : State → Trace) → Reaching h n f → Agree f g → (xs : List Met) → Agree (pass h f xs) (pass other g xs)
   unfolding pass

@@ -44,7 +44,7 @@ pub moved_stands : (h : Sheet) (x : Met) (s n : State) → Stands h s → (Walka
 moved_stands h x s n i within m l =
     record {
       few = omega arith;
-      to = m.to;
+      to = m.to i.to;
       from = λ w. m.from (within w) (i.from w);
       in-records = λ w. m.row_in (i.in-records w);
     }
@@ -128,7 +128,7 @@ ends_stopped = elim [ ]
 -- ---- every placement lies in the records, and in those reached
 
 pub covered_inside : (h : Sheet) (x : Met) (s n : State) (p : Placement) (k : ℕ) → Stands h s → Covered h.kinds h.records x s p n → Walkable h → s.row < k → Inside h.records.width k p
-covered_inside h x s n p k i c w l = let from = i.from w in record { in-record = omega arith; from = omega arith; to = omega (arith, c.moved.to) }
+covered_inside h x s n p k i c w l = let from = i.from w in record { in-record = omega arith; from = omega arith; to = omega (arith, c.moved.to i.to) }
 
 pub covers_inside : CoversInside
 covers_inside h w =

@@ -15,7 +15,7 @@ use Rattle.list_elements.specs.declared.Element.{Element}
 use Rattle.sheet_walk.specs.declared.State.{State}
 use Rattle.sheet_walk.specs.declared.Cover.{Cover}
 use Rattle.sheet_walk.specs.declared.walk.Walk.{Walk}
-use Rattle.sheet_walk.specs.Steps.{Placement, covers, state, element, field_width, step}
+use Rattle.sheet_walk.specs.Steps.{Placement, covers, to_column, element, field_width, step}
 use Rattle.sheet_walk.specs.Walk.{Sheet, put, after}
 use Rattle.sheet_walk.specs.Laid.{offset_of}
 use Rattle.sheet_walk.specs.Promises.{Inside}
@@ -37,7 +37,7 @@ module _ (w : Walk) where
 
   -- where the walk stands after k fields that cover so many columns
   abbrev state_after : ℕ → ℕ → State
-  state_after k columns = state w.state.row (w.state.column + columns) (w.state.taken + k)
+  state_after k columns = to_column w.state (w.state.column + columns) (w.state.taken + k)
 
   -- k fields, covering so many columns, were placed
   pub record FieldRun (cs : List Cover) (k columns : ℕ) : Type 0 where
@@ -79,13 +79,13 @@ module _ (w : Walk) where
 
     -- its placement
     abbrev p_of : Placement
-    p_of = record { what = element s.taken the_field.f; row = s.row; column = s.column; width = field_width the_field.f kind }
+    p_of = record { what = element s.taken the_field.f; row = s.row; column = s.column; width = field_width the_field.f kind; settings = s.settings }
 
     wide : columns_in p ≡ field_width the_field.f kind
     wide = the_field.keeps.wide
 
     abbrev next : State
-    next = state w.state.row (s.column + field_width the_field.f kind) (s.taken + 1)
+    next = to_column w.state (s.column + field_width the_field.f kind) (s.taken + 1)
 
     covers_it : step h.kinds h.records (Met.field the_field.f) s ≡ covers p_of next
     covers_it =
@@ -106,13 +106,14 @@ module _ (w : Walk) where
         ∙ get_or-map (λ y. kind_of (value_of y)) w.elements.now s.taken x
         ∙ ap (λ y. kind_of (value_of y)) is_element
 
-    cover_is : CoverIs h t s.taken (record { at = w.state.row * w.records.width + (w.state.column - 1) + columns; word = p }) p_of
+    cover_is : CoverIs h t s.taken (record { at = w.state.row * w.records.width + (w.state.column - 1) + columns; word = p; settings = w.state.settings }) p_of
     cover_is =
         let i : Inside w.records.width w.records.count p_of = record { in-record = w.in_record; from = omega (arith, w.from); to = omega (arith, wide, fits) } in
         let at : w.state.row * w.records.width + (w.state.column - 1) + columns ≡ offset_of w.records.width p_of = omega (arith, w.from) in
         record {
           at = at;
           width = wide;
+          settings = refl;
           what = (
             refl,
             record { known = rw length-map in_elements; suited = rw kind_is the_field.suited; wide = rw kind_is refl },
@@ -123,9 +124,9 @@ module _ (w : Walk) where
           few = omega (arith, wide, fits, w.records.narrow, w.from);
         }
 
-    pub one_more : k < length cs → FieldRun (set cs k (record { at = w.state.row * w.records.width + (w.state.column - 1) + columns; word = p })) (k + 1) (columns + columns_in p)
+    pub one_more : k < length cs → FieldRun (set cs k (record { at = w.state.row * w.records.width + (w.state.column - 1) + columns; word = p; settings = w.state.settings })) (k + 1) (columns + columns_in p)
     one_more l =
-        let c : Cover = record { at = w.state.row * w.records.width + (w.state.column - 1) + columns; word = p } in
+        let c : Cover = record { at = w.state.row * w.records.width + (w.state.column - 1) + columns; word = p; settings = w.state.settings } in
         let f : next.taken ≡ s.taken + fields_of (item_at h (w.index + k)) = rw item_is refl in
         let col : w.state.column + (columns + columns_in p) ≡ s.column + field_width the_field.f kind = omega (arith, wide) in
         let many : w.state.taken + (k + 1) ≡ s.taken + 1 = omega arith in

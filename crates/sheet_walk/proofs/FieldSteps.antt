@@ -19,7 +19,7 @@ use Rattle.sheet_walk.specs.declared.Refusal.TheVariants as refusal
 use Rattle.sheet_walk.specs.declared.State.{State}
 use Rattle.sheet_walk.specs.declared.Cover.{Cover}
 use Rattle.sheet_walk.specs.declared.walk.Turn.TheVariants as turn
-use Rattle.sheet_walk.specs.Steps.{Records, What, Step, moves, covers, refused, ends, state, suits, field_width, element, cover_step, field_step}
+use Rattle.sheet_walk.specs.Steps.{Records, What, Step, moves, covers, refused, ends, to_column, suits, field_width, element, cover_step, field_step}
 use Rattle.sheet_walk.specs.Given.{item_width, suited_width, KeepsField}
 use Rattle.sheet_walk.specs.Followed.{CoversAs, AnswersAs}
 
@@ -34,6 +34,7 @@ field_word t u (word.X n) f e = e
 field_word t u (word.T n) f e = e
 field_word t u word.Slash f e = e
 field_word t u (word.Literal a n) f e = let g : ⊥ = cc in absurd g
+field_word t u (word.Setting k) f e = e
 
 -- the columns are the field's, where its kind suits
 suited_is : (t : List ℕ) (w : Word) (f : Field ℕ) (k : Kind) → met_of t w ≡ Met.field f → suited_width w k ≡ cond (suits f k) (Some (field_width f k)) None
@@ -84,17 +85,17 @@ module _ (rs : Records) (s : State) (what : What) (w taken : ℕ) where
   covers_narrow at n = go (leb (s.column + w) (rs.width + 1)) refl
     where
       go : (b : Bool) → leb (s.column + w) (rs.width + 1) ≡ b
-          → CoversAs rs (cond b (covers (record { what = what; row = s.row; column = s.column; width = w }) (state s.row (s.column + w) taken)) (refused (refusal.Column s.taken))) (Ok at) n → s.column + w ≤ rs.width + 1
+          → CoversAs rs (cond b (covers (record { what = what; row = s.row; column = s.column; width = w; settings = s.settings }) (to_column s (s.column + w) taken)) (refused (refusal.Column s.taken))) (Ok at) n → s.column + w ≤ rs.width + 1
       go true e h = leb-true _ _ e
       go false e h = let z : ⊥ = cc in absurd z
 
-  pub covered_as : (f : Field ℕ) {at : ℕ} (n : State) (c : Cover) → CoversAs rs (cover_step rs s what w taken) (Ok at) n → c.at ≡ at → KeepsField c.word w f
+  pub covered_as : (f : Field ℕ) {at : ℕ} (n : State) (c : Cover) → CoversAs rs (cover_step rs s what w taken) (Ok at) n → c.at ≡ at → c.settings ≡ s.settings → KeepsField c.word w f
       → AnswersAs rs f s (cover_step rs s what w taken) (Ok (turn.Covers c)) n
-  covered_as f {at} n c h o k = go (leb (s.column + w) (rs.width + 1)) h
+  covered_as f {at} n c h o g k = go (leb (s.column + w) (rs.width + 1)) h
     where
-      go : (b : Bool) → CoversAs rs (cond b (covers (record { what = what; row = s.row; column = s.column; width = w }) (state s.row (s.column + w) taken)) (refused (refusal.Column s.taken))) (Ok at) n
-          → AnswersAs rs f s (cond b (covers (record { what = what; row = s.row; column = s.column; width = w }) (state s.row (s.column + w) taken)) (refused (refusal.Column s.taken))) (Ok (turn.Covers c)) n
-      go true g = let e = g.0 in let z : at ≡ _ = cc in (c, refl, record { at = o ∙ z; keeps = k }, g.1)
+      go : (b : Bool) → CoversAs rs (cond b (covers (record { what = what; row = s.row; column = s.column; width = w; settings = s.settings }) (to_column s (s.column + w) taken)) (refused (refusal.Column s.taken))) (Ok at) n
+          → AnswersAs rs f s (cond b (covers (record { what = what; row = s.row; column = s.column; width = w; settings = s.settings }) (to_column s (s.column + w) taken)) (refused (refusal.Column s.taken))) (Ok (turn.Covers c)) n
+      go true m = let e = m.0 in let z : at ≡ _ = cc in (c, refl, record { at = o ∙ z; settings = g; keeps = k }, m.1)
       go false g = let z : ⊥ = cc in absurd z
 
 pub refused_as : (rs : Records) (f : Field ℕ) (s : State) (st : Step) (why : Refusal) (n : State) → CoversAs rs st (Err why) n → AnswersAs rs f s st (Err why) n

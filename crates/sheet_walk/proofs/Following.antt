@@ -7,6 +7,8 @@ use Rattle.std.proofs.lemmas.List.{length-map, get_or_default}
 use Rattle.std.proofs.lemmas.List.Elements.{All-get_or}
 use borrow.Author.Tests.{le-leb, lt-leb}
 use lib.ListN.{get_or-map}
+use Rattle.settings.specs.Settings.{set_by}
+use Rattle.settings.specs.declared.SettingItem.{SettingItem}
 use Rattle.format_items.specs.Items.{Field}
 use Rattle.format_items.specs.Met.{Met}
 use Rattle.format_items.specs.MetRanges.{MetWithin, AllMetWithin}
@@ -24,7 +26,7 @@ use Rattle.sheet_walk.specs.declared.Cover.{Cover}
 use Rattle.sheet_walk.specs.declared.walk.Walk.{Walk}
 use Rattle.sheet_walk.specs.declared.walk.Turn.{Turn}
 use Rattle.sheet_walk.specs.declared.walk.Turn.TheVariants as turn
-use Rattle.sheet_walk.specs.Steps.{Records, What, element, literal, Placement, Step, moves, covers, refused, ends, cover_step, field_step, x_step, t_step, next_record, step, has_field, end_step}
+use Rattle.sheet_walk.specs.Steps.{with_settings, Records, What, element, literal, Placement, Step, moves, covers, refused, ends, cover_step, field_step, x_step, t_step, next_record, step, has_field, end_step}
 use Rattle.sheet_walk.specs.Walk.{Sheet, put, done, stopped, after}
 use Rattle.sheet_walk.specs.Promises.{Walkable}
 use Rattle.sheet_walk.specs.Laid.{offset_of}
@@ -119,9 +121,9 @@ module _ (w : Walk) where
     -- v is left of the walk after the columns of p, which c keeps
     module _ (v : Walk) (same : SameSheet w v) (e : v.index ≡ w.index + 1) where
       covers_on : (p : Placement) (n : State) (c : Cover) → Covered h.kinds h.records (met_of w.run.chars.now x) w.state p n → left_of w ≡ put p (walk_at h (w.index + 1) n) → v.state ≡ n
-          → c.at ≡ offset_of h.records.width p → columns_in c.word ≡ p.width → Keeps w.run.chars.now h.kinds w.state.taken p.width c.word p.what → takes c.word ≡ fields_of (met_of w.run.chars.now x)
+          → c.at ≡ offset_of h.records.width p → columns_in c.word ≡ p.width → c.settings ≡ w.state.settings → Keeps w.run.chars.now h.kinds w.state.taken p.width c.word p.what → takes c.word ≡ fields_of (met_of w.run.chars.now x)
           → CoversNext w v c
-      covers_on p n c d l q at wide keeps many =
+      covers_on p n c d l q at wide under keeps many =
           let i = covered_inside h (met_of w.run.chars.now x) w.state n p h.records.count stands d walkable w.in_record in
           let r : offset_of h.records.width p + p.width ≤ h.records.count * h.records.width = inside_room h.records.width h.records.count p i in
           let f : n.taken ≡ w.state.taken + fields_of (item_at h w.index) = d.moved.takes ∙ ap (λ (y : Met). w.state.taken + fields_of y) (sym item_is) in
@@ -129,7 +131,7 @@ module _ (w : Walk) where
             placement = p;
             left = l ∙ ap (put p) (sym (left_is v same e ∙ ap (walk_at h (w.index + 1)) q));
             same = same;
-            is = record { at = at; width = wide; what = keeps; room = rw (at, wide) r; few = omega (arith, wide, i.from, i.to, w.records.narrow) };
+            is = record { at = at; width = wide; settings = under ∙ sym d.settings; what = keeps; room = rw (at, wide) r; few = omega (arith, wide, i.from, i.to, w.records.narrow) };
             taken = ap (λ z. z.taken) q ∙ d.moved.takes ∙ ap (λ z. w.state.taken + z) (sym many);
             fewer = rw (turns_are v same e, q) (item_less h w.index w.state inside n f);
           }
@@ -143,14 +145,14 @@ module _ (w : Walk) where
           go (covers p n) d l m =
               let within : MetWithin (Met.field f) = subst MetWithin (item_is ∙ y) (within_at h.items w.index w.run.within) in
               let keeps = field_kept w.run.chars.now h.kinds w.state p.width m.0.word f p.what (rw y at d.by) within m.2.keeps in
-              rw m.1 (covers_on p n m.0 d l m.3 m.2.at m.2.keeps.wide keeps (field_takes m.2.keeps ∙ rw y refl))
+              rw m.1 (covers_on p n m.0 d l m.3 m.2.at m.2.keeps.wide (m.2.settings ∙ d.settings) keeps (field_takes m.2.keeps ∙ rw y refl))
           go (refused why) d l m = rw m l
           go ends d l m = rw (m.0, m.1) l
 
       -- a literal
-      pub literal_answers : (cs : List ℕ) → met_of w.run.chars.now x ≡ Met.literal cs → {at : ℕ} (c : Cover) → c.at ≡ at → KeepsLiteral w.run.chars.now c.word cs → columns_in c.word ≡ length cs
+      pub literal_answers : (cs : List ℕ) → met_of w.run.chars.now x ≡ Met.literal cs → {at : ℕ} (c : Cover) → c.at ≡ at → c.settings ≡ w.state.settings → KeepsLiteral w.run.chars.now c.word cs → columns_in c.word ≡ length cs
           → {st : Step} → st ≡ the_step → {r : Result ℕ Refusal} → r ≡ Ok at → CoversAs h.records st r v.state → TurnIs w (Ok (turn.Covers c)) v
-      literal_answers cs y {at} c o k wide {st} g q m = go the_step does left_after (subst (λ z. CoversAs h.records z (Ok at) v.state) g (subst (λ z. CoversAs h.records st z v.state) q m))
+      literal_answers cs y {at} c o under k wide {st} g q m = go the_step does left_after (subst (λ z. CoversAs h.records z (Ok at) v.state) g (subst (λ z. CoversAs h.records st z v.state) q m))
         where
           go : (st : Step) → Does h.kinds h.records (met_of w.run.chars.now x) w.state st → left_of w ≡ after st w.state (walk_at h (w.index + 1)) → CoversAs h.records st (Ok at) v.state → CoversNext w v c
           go (moves n) d l m = absurd m
@@ -158,7 +160,7 @@ module _ (w : Walk) where
               let a = m.0 in
               let z : at ≡ offset_of h.records.width p = cc in
               let by : CoveredBy h.kinds (Met.literal cs) w.state p.width p.what = rw y at d.by in
-              covers_on p n c d l m.1 (o ∙ z) (wide ∙ sym (literal_wide h.kinds cs w.state p.width p.what by)) (literal_kept w.run.chars.now h.kinds w.state p.width c.word cs p.what by k) (literal_takes k ∙ rw y refl)
+              covers_on p n c d l m.1 (o ∙ z) (wide ∙ sym (literal_wide h.kinds cs w.state p.width p.what by)) under (literal_kept w.run.chars.now h.kinds w.state p.width c.word cs p.what by k) (literal_takes k ∙ rw y refl)
           go (refused why) d l m = let z : ⊥ = cc in absurd z
           go ends d l m = absurd m
 
@@ -267,6 +269,11 @@ module _ (kinds : List Kind) (rs : Records) (s : State) where
   unfolding step
   T-step e = ap (t_step rs s) e
 
+  -- of one that sets, as the code answers it
+  pub set_moves : (k : SettingItem) {n : State} → n ≡ with_settings s (set_by k s.settings) → MovesAs (step kinds rs (Met.setting k) s) (Ok tt) n
+  unfolding step
+  set_moves k e = (refl, e)
+
   pub slash_step : next_record rs s ≡ step kinds rs Met.slash s
   unfolding step
   slash_step = refl
@@ -290,16 +297,17 @@ same_on a b = record { run = b.run ∙ a.run; elements = b.elements ∙ a.elemen
 -- ---- the word of a field
 
 -- a word that is none of the others
-pub field_word : (t : List ℕ) (x : Word) → ((n : ℕ) → x ≡ word.X n → ⊥) → ((n : ℕ) → x ≡ word.T n → ⊥) → (x ≡ word.Slash → ⊥) → ((a n : ℕ) → x ≡ word.Literal a n → ⊥) → (f : Field ℕ) × (met_of t x ≡ Met.field f)
-field_word t (word.I n) a b c d = (Field.I n, refl)
-field_word t (word.F n k) a b c d = (Field.F n k, refl)
-field_word t (word.L n) a b c d = (Field.L n, refl)
-field_word t word.A a b c d = (Field.A, refl)
-field_word t (word.Aw n) a b c d = (Field.Aw n, refl)
-field_word t (word.X n) a b c d = absurd (a n refl)
-field_word t (word.T n) a b c d = absurd (b n refl)
-field_word t word.Slash a b c d = absurd (c refl)
-field_word t (word.Literal k n) a b c d = absurd (d k n refl)
+pub field_word : (t : List ℕ) (x : Word) → ((n : ℕ) → x ≡ word.X n → ⊥) → ((n : ℕ) → x ≡ word.T n → ⊥) → (x ≡ word.Slash → ⊥) → ((a n : ℕ) → x ≡ word.Literal a n → ⊥) → ((k : SettingItem) → x ≡ word.Setting k → ⊥) → (f : Field ℕ) × (met_of t x ≡ Met.field f)
+field_word t (word.I n) a b c d s = (Field.I n, refl)
+field_word t (word.F n k) a b c d s = (Field.F n k, refl)
+field_word t (word.L n) a b c d s = (Field.L n, refl)
+field_word t word.A a b c d s = (Field.A, refl)
+field_word t (word.Aw n) a b c d s = (Field.Aw n, refl)
+field_word t (word.X n) a b c d s = absurd (a n refl)
+field_word t (word.T n) a b c d s = absurd (b n refl)
+field_word t word.Slash a b c d s = absurd (c refl)
+field_word t (word.Literal k n) a b c d s = absurd (d k n refl)
+field_word t (word.Setting k) a b c d s = absurd (s k refl)
 
 module _ (w : Walk) where
   -- the step of a literal's word, for as many columns as it says

@@ -1,6 +1,6 @@
 -- What covers columns, kept by its word.
 -- Assumes nothing.
-use Rattle.std.proofs.Common.{◌≡◌, refl, sym, ap, ◌∙◌, true, List, ℕ, zero, suc, ◌+◌, ◌≤◌, length, take, drop, arith}
+use Rattle.std.proofs.Common.{◌≡◌, refl, sym, ap, ◌∙◌, true, List, ℕ, ◌+◌, ◌≤◌, length, take, drop, arith}
 use borrow.Author.Tests.{le-leb, lt-leb}
 use lib.Seq.{length-take-le}
 use lib.ListN.{length-drop}
@@ -8,10 +8,11 @@ use Rattle.format_items.specs.Items.{Field}
 use Rattle.format_items.specs.Met.{Met}
 use Rattle.format_items.specs.MetRanges.{MetWithin}
 use Rattle.format_words.specs.Words.{met_of, met_in}
-use Rattle.format_words.specs.Packing.{literal_kind, word_of, word_in, kind_in, detail_in, columns_in}
+use Rattle.format_words.specs.Packing.{literal_kind, word_in, kind_in, detail_in, columns_in}
+use Rattle.format_words.specs.declared.Word.{Word}
 use Rattle.format_words.specs.declared.Word.TheVariants as word
 use Rattle.format_words.specs.declared.packed.Packed.{Packed}
-use Rattle.format_words.proofs.PackingLaws.{word_is, literal_parts}
+use Rattle.format_words.proofs.PackingLaws.{word_is, word_parts}
 use Rattle.list_elements.specs.Elements.{Kind, integer, decimal, logical, text}
 use Rattle.sheet_walk.specs.Steps.{What, element, literal, suits, field_width}
 use Rattle.sheet_walk.specs.Given.{kind_number, KeepsField, KeepsLiteral, Keeps, takes}
@@ -37,48 +38,36 @@ field_of_kind t k (text m) e = record { f = Field.Aw (columns_in k); is = ap (me
 
 -- any but A keeps its own field
 pub keeps_own : (t : List ℕ) (k : Packed) (f : Field ℕ) (kind : Kind) → met_in t k ≡ Met.field f → (word_in k ≡ word.A → ⊥) → KeepsField k (field_width f kind) f
-keeps_own t k f kind e u = go (kind_in k) refl
+keeps_own t k f kind e u = go (word_in k) refl
   where
-    by : {n : ℕ} → kind_in k ≡ n → met_of t (word_of n (detail_in k) (columns_in k)) ≡ Met.field f
-    by q = ap (met_of t) (sym (word_is k q)) ∙ e
+    kept : {g : Field ℕ} {x : Word} → word_in k ≡ x → met_of t x ≡ Met.field g → KeepsField k (field_width g kind) g → KeepsField k (field_width f kind) f
+    kept {g} q m h = let by = ap (met_of t) (sym q) ∙ e in let z : g ≡ f = cc in rw (← z) h
 
-    go : (n : ℕ) → kind_in k ≡ n → KeepsField k (field_width f kind) f
-    go zero q = let g = by q in let z : Field.I (columns_in k) ≡ f = cc in rw (← z) (record { no_literal = omega (arith, q); wide = refl; places = tt })
-    go (suc zero) q = let g = by q in let z : Field.F (columns_in k) (detail_in k) ≡ f = cc in rw (← z) (record { no_literal = omega (arith, q); wide = refl; places = refl })
-    go (suc (suc zero)) q = let g = by q in let z : Field.L (columns_in k) ≡ f = cc in rw (← z) (record { no_literal = omega (arith, q); wide = refl; places = tt })
-    go (suc (suc (suc zero))) q = let g = by q in let z : Field.Aw (columns_in k) ≡ f = cc in rw (← z) (record { no_literal = omega (arith, q); wide = refl; places = tt })
-    go (suc (suc (suc (suc zero)))) q = absurd (u (word_is k q))
-    go (suc (suc (suc (suc (suc zero))))) q = let g = by q in let z : ⊥ = cc in absurd z
-    go (suc (suc (suc (suc (suc (suc zero)))))) q = let g = by q in let z : ⊥ = cc in absurd z
-    go (suc (suc (suc (suc (suc (suc (suc zero))))))) q = let g = by q in let z : ⊥ = cc in absurd z
-    go (suc (suc (suc (suc (suc (suc (suc (suc n)))))))) q = let g = by q in let z : ⊥ = cc in absurd z
+    go : (x : Word) → word_in k ≡ x → KeepsField k (field_width f kind) f
+    go (word.I n) q = let p = word_parts k q in kept {g = Field.I n} q refl (record { no_literal = p.0; wide = p.1; places = tt })
+    go (word.F n d) q = let p = word_parts k q in kept {g = Field.F n d} q refl (record { no_literal = p.0; wide = p.1; places = p.2 })
+    go (word.L n) q = let p = word_parts k q in kept {g = Field.L n} q refl (record { no_literal = p.0; wide = p.1; places = tt })
+    go word.A q = absurd (u q)
+    go (word.Aw n) q = let p = word_parts k q in kept {g = Field.Aw n} q refl (record { no_literal = p.0; wide = p.1; places = tt })
+    go (word.X n) q = let g = ap (met_of t) (sym q) ∙ e in let z : ⊥ = cc in absurd z
+    go (word.T n) q = let g = ap (met_of t) (sym q) ∙ e in let z : ⊥ = cc in absurd z
+    go word.Slash q = let g = ap (met_of t) (sym q) ∙ e in let z : ⊥ = cc in absurd z
+    go (word.Literal a n) q = let g = ap (met_of t) (sym q) ∙ e in let z : ⊥ = cc in absurd z
+    go (word.Setting s) q = let g = ap (met_of t) (sym q) ∙ e in let z : ⊥ = cc in absurd z
 
 -- A alone is kept by a word of Aw
 pub keeps_text : (t : List ℕ) (k m : Packed) (f : Field ℕ) {w : ℕ} → met_in t k ≡ Met.field f → word_in k ≡ word.A → word_in m ≡ word.Aw w → KeepsField m w f
-keeps_text t k m f {w} e a b = go (kind_in m) refl
-  where
-    is_A : Field.A ≡ f
-    is_A = let g = ap (met_of t) (sym a) ∙ e in cc
-
-    by : {n : ℕ} → kind_in m ≡ n → word_of n (detail_in m) (columns_in m) ≡ word.Aw w
-    by q = sym (word_is m q) ∙ b
-
-    go : (n : ℕ) → kind_in m ≡ n → KeepsField m w f
-    go zero q = let g = by q in let z : ⊥ = cc in absurd z
-    go (suc zero) q = let g = by q in let z : ⊥ = cc in absurd z
-    go (suc (suc zero)) q = let g = by q in let z : ⊥ = cc in absurd z
-    go (suc (suc (suc zero))) q = let g = by q in let z : columns_in m ≡ w = cc in rw (← is_A) (record { no_literal = omega (arith, q); wide = z; places = tt })
-    go (suc (suc (suc (suc zero)))) q = let g = by q in let z : ⊥ = cc in absurd z
-    go (suc (suc (suc (suc (suc zero))))) q = let g = by q in let z : ⊥ = cc in absurd z
-    go (suc (suc (suc (suc (suc (suc zero)))))) q = let g = by q in let z : ⊥ = cc in absurd z
-    go (suc (suc (suc (suc (suc (suc (suc zero))))))) q = let g = by q in let z : ⊥ = cc in absurd z
-    go (suc (suc (suc (suc (suc (suc (suc (suc n)))))))) q = let g = by q in let z : ⊥ = cc in absurd z
+keeps_text t k m f {w} e a b =
+    let g = ap (met_of t) (sym a) ∙ e in
+    let is_A : Field.A ≡ f = cc in
+    let p = word_parts m b in
+    rw (← is_A) (record { no_literal = p.0; wide = p.1; places = tt })
 
 -- ---- a literal
 
 pub keeps_literal : (t : List ℕ) (k : Packed) {a n : ℕ} → word_in k ≡ word.Literal a n → a + n ≤ length t → KeepsLiteral t k (take n (drop a t)) × (columns_in k ≡ length (take n (drop a t)))
 keeps_literal t k {a} {n} e inside =
-    let h = literal_parts k e in
+    let h = word_parts k e in
     let l : length (take n (drop a t)) ≡ n = length-take-le n (drop a t) (omega (arith, length-drop a t)) in
     (record { is_literal = h.0; inside = omega (arith, h.1, h.2); are = rw (h.1, h.2) refl }, h.2 ∙ sym l)
 

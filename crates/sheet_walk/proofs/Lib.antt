@@ -1,4 +1,5 @@
 pub mod StepLaws
+pub mod SettingLaws
 pub mod Returns
 pub mod FieldSteps
 pub mod Covering

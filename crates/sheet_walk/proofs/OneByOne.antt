@@ -10,6 +10,7 @@ use Rattle.format_items.specs.Items.{Field}
 use Rattle.format_items.specs.Met.{Met}
 use Rattle.format_items.specs.MetRanges.{MetWithin}
 use Rattle.list_elements.specs.Elements.{Kind}
+use Rattle.settings.specs.Settings.{start_settings}
 use Rattle.sheet_walk.specs.declared.Cover.{Cover}
 use Rattle.sheet_walk.specs.Steps.{What, element, literal}
 use Rattle.sheet_walk.specs.Walk.{Sheet, Trace}
@@ -22,7 +23,7 @@ use Rattle.sheet_walk.proofs.Parts.{First, begins_first, begins_none}
 
 -- what an array of them holds before it is filled
 abbrev pub zero_cover : Cover
-zero_cover = record { at = 0; word = record { bits = 0 } }
+zero_cover = record { at = 0; word = record { bits = 0 }; settings = start_settings }
 
 -- the k-th columns
 abbrev pub cover_at : List Cover → ℕ → Cover

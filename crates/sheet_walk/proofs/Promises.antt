@@ -1,11 +1,12 @@
 -- The theorems on the walk that specs/Promises.antt states.
 -- Assumes nothing.
-use Rattle.sheet_walk.specs.Promises.{WidthRightIs, EndIs, ReturnTakes, ItemRefusedIs, EndRefusedIs, CoversInside, CoversReached, ElementsSuited, PutsEach, LiteralsWide, RecordsBeyond, RefusedBecause, RefusedOnlyThere, EndsExactly, CoversExactly, CoveredTwiceIs, ColumnsKept}
+use Rattle.sheet_walk.specs.Promises.{WidthRightIs, EndIs, ReturnTakes, ItemRefusedIs, EndRefusedIs, CoversInside, CoversReached, ElementsSuited, PutsEach, LiteralsWide, RecordsBeyond, RefusedBecause, RefusedOnlyThere, EndsExactly, CoversExactly, SettingCarried, AfterSSThroughout, CoveredTwiceIs, ColumnsKept}
 use Rattle.sheet_walk.proofs.WidthLaws
 use Rattle.sheet_walk.proofs.Returns
 use Rattle.sheet_walk.proofs.Refusing
 use Rattle.sheet_walk.proofs.Covering
 use Rattle.sheet_walk.proofs.Coming
+use Rattle.sheet_walk.proofs.SettingLaws
 use Rattle.sheet_walk.proofs.Beyond
 use Rattle.sheet_walk.proofs.Twice
 use Rattle.sheet_walk.proofs.Windows
@@ -62,6 +63,14 @@ ends_exactly = Coming.ends_exactly
 
 pub covers_exactly : CoversExactly
 covers_exactly = Coming.covers_exactly
+
+-- ---- which setting holds
+
+pub setting_carried : SettingCarried
+setting_carried = SettingLaws.setting_carried
+
+pub after_ss_throughout : AfterSSThroughout
+after_ss_throughout = SettingLaws.after_ss_throughout
 
 -- ---- columns covered twice
 

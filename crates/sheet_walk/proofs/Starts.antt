@@ -25,6 +25,7 @@ field_is t (word.X n) = refl
 field_is t (word.T n) = refl
 field_is t word.Slash = refl
 field_is t (word.Literal a n) = refl
+field_is t (word.Setting k) = refl
 
 fields_are : (t : List ℕ) (ws : List Packed) → list_any (λ p. word_is_field (word_in p)) ws ≡ has_field (map (met_in t) ws)
 unfolding has_field

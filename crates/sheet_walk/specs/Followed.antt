@@ -59,6 +59,7 @@ CoversAs rs steps.ends r s = ⊥
 -- the columns of a placement, as the code keeps them for the field f
 pub record FieldCover (R : ℕ) (f : Field ℕ) (p : steps.Placement) (c : Cover) : Type 0 where
   pub at : c.at ≡ offset_of R p
+  pub settings : c.settings ≡ p.settings
   pub keeps : KeepsField c.word p.width f
 
 -- a step of the field f at s, as the code answers it: it covers columns, is refused, or ends the walk
@@ -72,6 +73,7 @@ AnswersAs rs f s steps.ends r v = (r ≡ Ok turn.Ends) × (v ≡ s)
 pub record CoverIs (h : Sheet) (t : List ℕ) (i : ℕ) (c : Cover) (p : steps.Placement) : Type 0 where
   pub at : c.at ≡ offset_of h.records.width p
   pub width : columns_in c.word ≡ p.width
+  pub settings : c.settings ≡ p.settings
   pub what : Keeps t h.kinds i p.width c.word p.what
   pub room : c.at + columns_in c.word ≤ h.records.count * h.records.width
   pub few : columns_in c.word ≤ widest_record

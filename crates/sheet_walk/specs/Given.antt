@@ -5,7 +5,7 @@ use Rattle.format_items.specs.Items.{Field}
 use Rattle.format_items.specs.Met.{Met}
 use Rattle.format_items.specs.MetRanges.{MetWithin}
 use Rattle.format_words.specs.Words.{met_of, met_in}
-use Rattle.format_words.specs.Packing.{literal_kind, kind_in, detail_in, columns_in}
+use Rattle.format_words.specs.Packing.{i_kind, f_kind, l_kind, aw_kind, literal_kind, kind_in, detail_in, columns_in}
 use Rattle.format_words.specs.declared.packed.Packed.{Packed}
 use Rattle.format_words.specs.declared.Word.{Word}
 use Rattle.format_words.specs.declared.run.Run.{Run}
@@ -29,6 +29,7 @@ item_width (Met.X n) k = None
 item_width (Met.T n) k = None
 item_width Met.slash k = None
 item_width (Met.literal cs) k = None
+item_width (Met.setting s) k = None
 
 -- by its word. (Here the characters of literals do not matter.)
 abbrev pub suited_width : Word → Kind → Option ℕ
@@ -36,10 +37,10 @@ suited_width w k = item_width (met_of [] w) k
 
 -- the kind of the words of fields that an element's kind suits, A alone aside
 abbrev pub kind_number : Kind → ℕ
-kind_number integer = 0
-kind_number decimal = 1
-kind_number logical = 2
-kind_number (text m) = 3
+kind_number integer = i_kind
+kind_number decimal = f_kind
+kind_number logical = l_kind
+kind_number (text m) = aw_kind
 
 -- the records of a buffer
 abbrev pub records_of : code.Records → Records
@@ -95,6 +96,7 @@ fields_of (Met.X n) = 0
 fields_of (Met.T n) = 0
 fields_of Met.slash = 0
 fields_of (Met.literal cs) = 0
+fields_of (Met.setting k) = 0
 
 -- whether a word is that of a field
 abbrev pub word_is_field : Word → Bool

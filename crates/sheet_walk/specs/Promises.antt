@@ -1,6 +1,10 @@
 -- What the theorems of proofs/Promises.antt say of the walk.
 -- Assumes nothing.
-use Rattle.std.specs.Prelude.{◌≡◌, ◌↔◌, true, false, List, [], ◌∷◌, ℕ, zero, suc, ◌+◌, ◌*◌, ◌<◌, ◌≤◌, length, get_or}
+use Rattle.std.specs.Prelude.{◌≡◌, ◌↔◌, true, false, List, [], ◌∷◌, ℕ, zero, suc, ◌+◌, ◌*◌, ◌<◌, ◌≤◌, length, get_or, All}
+use Rattle.settings.specs.declared.SettingItem.{SettingItem}
+use Rattle.settings.specs.declared.SettingItem.TheVariants.{SP, SS, S}
+use Rattle.settings.specs.declared.SignSetting.{SignSetting}
+use Rattle.settings.specs.declared.SignSetting.TheVariants.{AfterSS, AfterSP}
 use Rattle.format_items.specs.Items.{Field}
 use Rattle.format_items.specs.Met.{Met}
 use Rattle.format_items.specs.MetRanges.{AllMetWithin}
@@ -174,6 +178,49 @@ pub data CoversThere (h : Sheet) (p : Placement) : Type 0 where
 -- a placement is one of the walk's exactly where the walk comes to an item that covers it
 abbrev pub CoversExactly : Type 0
 CoversExactly = (h : Sheet) (p : Placement) → In p (walk h) ↔ CoversThere h p
+
+-- ---- which setting holds: 'After SP ..; after SS or S the rule above holds. The walk carries the setting, starts with SS, and a return to
+-- a group doesn't reset it.'
+
+-- the walk comes to the state s, with the items xs still to be met; ks are the items SP, SS and S that were met before, the last one
+-- first, returns included
+pub data ComesAfter (h : Sheet) : (ks : List SettingItem) → List Met → State → Type 0 where
+  begins : ComesAfter h [] h.items start
+  sets : {ks : List SettingItem} {k : SettingItem} {xs : List Met} {s n : State} → ComesAfter h ks (Met.setting k ∷ xs) s
+      → step h.kinds h.records (Met.setting k) s ≡ moves n → ComesAfter h (k ∷ ks) xs n
+  moved : {ks : List SettingItem} {x : Met} {xs : List Met} {s n : State} → ((k : SettingItem) → x ≡ Met.setting k → ⊥) → ComesAfter h ks (x ∷ xs) s
+      → step h.kinds h.records x s ≡ moves n → ComesAfter h ks xs n
+  covered : {ks : List SettingItem} {x : Met} {xs : List Met} {s n : State} {p : Placement} → ComesAfter h ks (x ∷ xs) s
+      → step h.kinds h.records x s ≡ covers p n → ComesAfter h ks xs n
+  returned : {ks : List SettingItem} {s n : State} → ComesAfter h ks [] s → end_step h.kinds h.records h.part s ≡ moves n → ComesAfter h ks h.part n
+
+-- an item that covers p is met after them
+pub data CoversAfter (h : Sheet) (ks : List SettingItem) (p : Placement) : Type 0 where
+  at_item : {x : Met} {xs : List Met} {s n : State} → ComesAfter h ks (x ∷ xs) s → step h.kinds h.records x s ≡ covers p n → CoversAfter h ks p
+
+-- the setting after them: after none as after SS. (In the rules' words, and not by `set_by`, which the walk's definition uses.)
+abbrev pub setting_of : List SettingItem → SignSetting
+setting_of [] = AfterSS
+setting_of (SP ∷ ks) = AfterSP
+setting_of (SS ∷ ks) = AfterSS
+setting_of (S ∷ ks) = AfterSS
+
+-- what a placement carries is the setting after the items that were met before it; and each placement is met after some
+abbrev pub SettingCarried : Type 0
+SettingCarried =
+    (h : Sheet) (p : Placement) → ((ks : List SettingItem) → CoversAfter h ks p → p.settings.signs ≡ setting_of ks)
+    × (In p (walk h) → (ks : List SettingItem) × CoversAfter h ks p)
+
+-- no SP is among items
+abbrev pub IsNoSP : Met → Type 0
+IsNoSP x = x ≡ Met.setting SP → ⊥
+
+abbrev pub NoSP : List Met → Type 0
+NoSP xs = All IsNoSP xs
+
+-- a walk that meets no SP is as after SS throughout
+abbrev pub AfterSSThroughout : Type 0
+AfterSSThroughout = (h : Sheet) → NoSP h.items → NoSP h.part → (p : Placement) → In p (walk h) → p.settings.signs ≡ AfterSS
 
 -- ---- columns covered twice
 

@@ -1,6 +1,9 @@
--- The rules, 'The walk': what each item does.
+-- The rules, 'The walk' and 'Plus signs': what each item does.
 -- Assumes nothing.
 use Rattle.std.specs.Prelude.{Bool, true, false, ◌&&◌, ◌||◌, cond, List, [], ◌∷◌, ℕ, ◌+◌, ◌/◌, leb, ltb, length, drop}
+use Rattle.settings.specs.Settings.{set_by, start_settings}
+use Rattle.settings.specs.declared.SettingItem.{SettingItem}
+use Rattle.settings.specs.declared.Settings.{Settings}
 use Rattle.format_items.specs.Items.{Field}
 use Rattle.format_items.specs.Met.{Met}
 use Rattle.list_elements.specs.Elements.{Kind, integer, decimal, logical, text, text_length}
@@ -26,24 +29,34 @@ records_in R B = record { width = R; count = B / R }
 
 -- ---- where the walk stands, and what is covered
 
-abbrev pub state : ℕ → ℕ → ℕ → State
-state row column taken = record { row = row; column = column; taken = taken }
-
--- 'The walk starts at column 1 of the first record.'
+-- 'The walk starts at column 1 of the first record'; 'The walk carries the setting, starts with SS'
 abbrev pub start : State
-start = state 0 1 0
+start = record { row = 0; column = 1; taken = 0; settings = start_settings }
+
+-- at another column, with so many elements taken
+abbrev pub to_column : State → ℕ → ℕ → State
+to_column s column taken = record { row = s.row; column = column; taken = taken; settings = s.settings }
+
+-- at column 1 of the next record
+abbrev pub to_next_record : State → State
+to_next_record s = record { row = s.row + 1; column = 1; taken = s.taken; settings = s.settings }
+
+-- under other settings
+abbrev pub with_settings : State → Settings → State
+with_settings s g = record { row = s.row; column = s.column; taken = s.taken; settings = g }
 
 -- what covers columns: the element of a place in the list under a field, or a literal
 pub data What : Type 0 where
   element : (place : ℕ) → Field ℕ → What
   literal : (characters : List ℕ) → What
 
--- columns covered: in which record, from 0, from which column on, and how many
+-- columns covered: in which record, from 0, from which column on, and how many; and the settings under which that is met
 pub record Placement : Type 0 where
   pub what : What
   pub row : ℕ
   pub column : ℕ
   pub width : ℕ
+  pub settings : Settings
 
 -- what an item does: it moves the walk, covers columns and moves it, is refused, or ends the walk
 pub data Step : Type 0 where
@@ -101,7 +114,7 @@ field_width (Field.Aw w) k = w
 abbrev pub cover_step : Records → State → What → ℕ → ℕ → Step
 cover_step rs s what w taken =
     cond (leb (s.column + w) (rs.width + 1))
-    (covers (record { what = what; row = s.row; column = s.column; width = w }) (state s.row (s.column + w) taken))
+    (covers (record { what = what; row = s.row; column = s.column; width = w; settings = s.settings }) (to_column s (s.column + w) taken))
     (refused (refusal.Column s.taken))
 
 -- 'A field takes the next element and covers w columns'; 'When a field is met and no element remains, the walk ends.' 'At
@@ -113,15 +126,19 @@ field_step rs s f (k ∷ ks) =
 
 -- 'nX moves n columns on.' 'After X .. the column is at most R + 1.'
 abbrev pub x_step : Records → State → ℕ → Step
-x_step rs s n = cond (leb (s.column + n) (rs.width + 1)) (moves (state s.row (s.column + n) s.taken)) (refused (refusal.Column s.taken))
+x_step rs s n = cond (leb (s.column + n) (rs.width + 1)) (moves (to_column s (s.column + n) s.taken)) (refused (refusal.Column s.taken))
 
 -- 'Tn moves to column n.' 'Tn needs n ≤ R.'
 abbrev pub t_step : Records → State → ℕ → Step
-t_step rs s n = cond (leb n rs.width) (moves (state s.row n s.taken)) (refused (refusal.Column s.taken))
+t_step rs s n = cond (leb n rs.width) (moves (to_column s n s.taken)) (refused (refusal.Column s.taken))
 
 -- 'A slash goes to column 1 of the next record'; row 9: 'none left'
 abbrev pub next_record : Records → State → Step
-next_record rs s = cond (ltb (s.row + 1) rs.count) (moves (state (s.row + 1) 1 s.taken)) (refused (refusal.NextRecord s.taken))
+next_record rs s = cond (ltb (s.row + 1) rs.count) (moves (to_next_record s)) (refused (refusal.NextRecord s.taken))
+
+-- SP, SS and S: other settings, and nothing else changes
+abbrev pub setting_step : State → SettingItem → Step
+setting_step s k = moves (with_settings s (set_by k s.settings))
 
 -- an item met, the list's elements being of these kinds; 'A literal covers its characters' columns'
 unfoldable pub step : List Kind → Records → Met → State → Step
@@ -130,6 +147,7 @@ step kinds rs (Met.X n) s = x_step rs s n
 step kinds rs (Met.T n) s = t_step rs s n
 step kinds rs Met.slash s = next_record rs s
 step kinds rs (Met.literal cs) s = cover_step rs s (literal cs) (length cs) s.taken
+step kinds rs (Met.setting k) s = setting_step s k
 
 -- ---- the end of the format
 
@@ -139,6 +157,7 @@ is_field (Met.X n) = false
 is_field (Met.T n) = false
 is_field Met.slash = false
 is_field (Met.literal cs) = false
+is_field (Met.setting k) = false
 
 -- 'That part must have a field.'
 unfoldable pub has_field : List Met → Bool

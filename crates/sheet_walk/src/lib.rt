@@ -9,6 +9,7 @@ pub mod width;
 
 use format_items::FormatRefusal;
 use format_words::packed::Packed;
+use settings::Settings;
 
 // A sheet refused: rows of the rules' 'Checks by place'.
 #[derive(Clone, Copy, PartialEq, Eq, Debug)]
@@ -29,20 +30,23 @@ pub enum Refusal {
 // The widest record.
 pub const WIDEST_RECORD: usize = 255;
 
-// Where the walk stands: the record, from 0; the column, from 1; the elements taken.
+// Where the walk stands: the record, from 0; the column, from 1; the elements taken; and the settings, which hold until an item sets
+// others.
 #[derive(Clone, Copy, PartialEq, Eq, Debug)]
 pub struct State {
     pub row: usize,
     pub column: usize,
     pub taken: usize,
+    pub settings: Settings,
 }
 
-// Columns covered: where the first one stands in the records, and the word of the item. (A alone is kept as Aw, with the width of its
-// text; so the word has the number of columns.)
+// Columns covered: where the first one stands in the records, the word of the item, and the settings under which it was met. (A alone
+// is kept as Aw, with the width of its text; so the word has the number of columns.)
 #[derive(Clone, Copy, PartialEq, Eq, Debug)]
 pub struct Cover {
     pub at: usize,
     pub word: Packed,
+    pub settings: Settings,
 }
 
 impl Cover {
@@ -50,6 +54,7 @@ impl Cover {
     pub const ZERO: Cover = Cover {
         at: 0,
         word: Packed::ZERO,
+        settings: Settings::START,
     };
 }
 

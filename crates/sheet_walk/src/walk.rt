@@ -10,9 +10,10 @@ ghost use Rattle.sheet_walk.specs.Given.{items_of, word_is_field, suited_width, 
 use crate::records::Records;
 use crate::{Cover, Refusal, State};
 use format_words::Word;
-use format_words::packed::Packed;
+use format_words::packed::{AW_KIND, F_KIND, I_KIND, L_KIND, Packed};
 use format_words::run::Run;
 use list_elements::{Element, Value};
+use settings::{SettingItem, Settings};
 
 // A walk: what it goes by, and where it stands. The part to return to has a field or not.
 #[derive(Clone, Copy)]
@@ -74,10 +75,10 @@ fn suited_kind(value: Value) -> u32
     ensures { result ≡ kind_number (kind_of value) }
 {
     match value {
-        Value::Integer(_) => 0,
-        Value::Decimal(_) => 1,
-        Value::Logical(_) => 2,
-        Value::Text(_) => 3,
+        Value::Integer(_) => I_KIND,
+        Value::Decimal(_) => F_KIND,
+        Value::Logical(_) => L_KIND,
+        Value::Text(_) => AW_KIND,
     }
 }
 
@@ -90,9 +91,10 @@ pub(crate) enum Turn {
 }
 
 impl<'a> Walk<'a> {
+    ghost use Rattle.settings.specs.Settings.{set_by};
     ghost use Rattle.format_items.specs.Items.{Field};
     ghost use Rattle.format_items.specs.Met.{Met};
-    ghost use Rattle.sheet_walk.specs.Steps.{What, cover_step, field_step, x_step, t_step, next_record};
+    ghost use Rattle.sheet_walk.specs.Steps.{with_settings, What, cover_step, field_step, x_step, t_step, next_record};
     ghost use Rattle.sheet_walk.specs.Walk.{walk};
     ghost use Rattle.list_elements.specs.Elements.{kinds_of};
     ghost use Rattle.sheet_walk.specs.Given.{given_sheet, records_of};
@@ -149,6 +151,16 @@ impl<'a> Walk<'a> {
         })
     }
 
+    // SP, SS and S: to other settings.
+    #[inline(always)]
+    fn set(&mut self, item: SettingItem)
+        ensures same { SameSheet self.old self.new }
+        ensures index { self.new.index ≡ self.old.index }
+        ensures moves { self.new.state ≡ with_settings self.old.state (set_by item self.old.state.settings) }
+    {
+        self.state.settings = self.state.settings.set(item);
+    }
+
     // So many columns are covered, and then so many elements taken; where the first column stands.
     #[inline(always)]
     fn cover(&mut self, width: usize, taken: usize) -> Result<usize, Refusal>
@@ -178,15 +190,16 @@ impl<'a> Walk<'a> {
         let Some(width) = field_width(item, element.value) else {
             return Err(Refusal::Kind { place });
         };
+        let settings = self.state.settings;
         let at = self.cover(width, place + 1)?;
         let Word::A = item else {
-            return Ok(Turn::Covers(Cover { at, word }));
+            return Ok(Turn::Covers(Cover { at, word, settings }));
         };
         // A cast: the columns are at most those of a record, and `try_from` would add an arm that is never taken.
         let word = Packed::of(Word::Aw {
             width: width as u16,
         });
-        Ok(Turn::Covers(Cover { at, word }))
+        Ok(Turn::Covers(Cover { at, word, settings }))
     }
 
     // The walk at its start.
@@ -207,6 +220,7 @@ impl<'a> Walk<'a> {
                 row: 0,
                 column: 1,
                 taken: 0,
+                settings: Settings::START,
             },
         }
     }
@@ -259,9 +273,11 @@ impl<'a> Walk<'a> {
             Word::X { count } => self.skip(usize::from(count))?,
             Word::T { column } => self.tab(usize::from(column))?,
             Word::Slash => self.next_record()?,
+            Word::Setting { item } => self.set(item),
             Word::Literal { start: _, len } => {
+                let settings = self.state.settings;
                 let at = self.cover(usize::from(len), self.state.taken)?;
-                return Ok(Turn::Covers(Cover { at, word }));
+                return Ok(Turn::Covers(Cover { at, word, settings }));
             }
             _ => return self.field(word),
         }
@@ -280,6 +296,7 @@ impl<'a> Walk<'a> {
         let most = words.len().min(elements.len()).min(covers.len());
         let at = self.state.row * self.records.width + (self.state.column - 1);
         let room = self.records.width + 1 - self.state.column;
+        let settings = self.state.settings;
         let mut columns: usize = 0;
         let mut count: usize = 0;
         while count < most {
@@ -291,6 +308,7 @@ impl<'a> Walk<'a> {
             covers[count] = Cover {
                 at: at + columns,
                 word,
+                settings,
             };
             columns += width;
             count += 1;

@@ -63,11 +63,11 @@ placed_right c t n e p m =
 -- ---- 'Stars and reading back', first half
 
 pub stars_exactly_when : StarsExactlyWhen
-stars_exactly_when c t n e p m i f q g = rw q (field_stars c.area (values_of c) i f p.width (all_suited (acceptable c t n e) p m i f q) g)
+stars_exactly_when c t n e p m i f q g = rw q (field_stars c.area p.settings (values_of c) i f p.width (all_suited (acceptable c t n e) p m i f q) g)
 
 pub numerals_shown : NumeralsShown
 numerals_shown c t n e p m i f q g none =
-    rw q (field_shows c.area (values_of c) i f p.width (all_suited (acceptable c t n e) p m i f q) g none)
+    rw q (field_shows c.area p.settings (values_of c) i f p.width (all_suited (acceptable c t n e) p m i f q) g none)
 
 pub starred_is_their_number : StarredIsTheirNumber
 starred_is_their_number c t n e =

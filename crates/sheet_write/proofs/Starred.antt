@@ -11,7 +11,8 @@ use lib.IntN.{ℤ}
 use Rattle.buffer.specs.Characters.{asterisk}
 use Rattle.number.specs.Rounding.{rounded_units}
 use Rattle.number.proofs.RoundingLaws.{rounded_is}
-use Rattle.field_written.specs.Numeral.{Numeric, plain, stands_for}
+use Rattle.settings.specs.declared.Settings.{Settings}
+use Rattle.field_written.specs.Numeral.{Numeric, stands_for}
 use Rattle.field_written.specs.Written.{field}
 use Rattle.field_written.proofs.Promises as fields
 use Rattle.format_items.specs.Items.{Field}
@@ -30,102 +31,102 @@ use Rattle.sheet_write.specs.Promises.{numeric, NoNumeral, Shows, Unrepresentabl
 -- ---- one field of a value that suits it
 
 -- an integer under I: its field is asterisks exactly when no numeral stands for it
-integer_none : (n : ℤ) (w : ℕ) → (field plain Numeric.I w n ≡ replicate w asterisk) ↔ NoNumeral (value.Integer n) (Field.I w)
-integer_none n w = ((λ e. NoNumeral.integer refl ((fields.stars_exactly_when plain Numeric.I w n).0 e)), back)
+integer_none : (g : Settings) (n : ℤ) (w : ℕ) → (field g.signs Numeric.I w n ≡ replicate w asterisk) ↔ NoNumeral g (value.Integer n) (Field.I w)
+integer_none g n w = ((λ e. NoNumeral.integer refl ((fields.stars_exactly_when g.signs Numeric.I w n).0 e)), back)
   where
-    back : NoNumeral (value.Integer n) (Field.I w) → field plain Numeric.I w n ≡ replicate w asterisk
-    back (NoNumeral.integer e none) = (fields.stars_exactly_when plain Numeric.I w n).1 (λ t q. none t (q ∙ ap integer_of e))
+    back : NoNumeral g (value.Integer n) (Field.I w) → field g.signs Numeric.I w n ≡ replicate w asterisk
+    back (NoNumeral.integer e none) = (fields.stars_exactly_when g.signs Numeric.I w n).1 (λ t q. none t (q ∙ ap integer_of e))
 
 -- a decimal under F: the same for the nearest multiple
-decimal_none : (x : Decimal) (d w : ℕ) → (field plain (Numeric.F d) w (rounded_units x.units x.places d) ≡ replicate w asterisk) ↔ NoNumeral (value.Decimal x) (Field.F w d)
-decimal_none x d w = (
-  (λ e. NoNumeral.decimal refl (λ t near. (fields.stars_exactly_when plain (Numeric.F d) w r).0 e t ((rounded_is x.units x.places d (stands_for t)).0 near))),
+decimal_none : (g : Settings) (x : Decimal) (d w : ℕ) → (field g.signs (Numeric.F d) w (rounded_units x.units x.places d) ≡ replicate w asterisk) ↔ NoNumeral g (value.Decimal x) (Field.F w d)
+decimal_none g x d w = (
+  (λ e. NoNumeral.decimal refl (λ t near. (fields.stars_exactly_when g.signs (Numeric.F d) w r).0 e t ((rounded_is x.units x.places d (stands_for t)).0 near))),
   back,
 )
   where
     r : ℤ
     r = rounded_units x.units x.places d
 
-    back : NoNumeral (value.Decimal x) (Field.F w d) → field plain (Numeric.F d) w r ≡ replicate w asterisk
+    back : NoNumeral g (value.Decimal x) (Field.F w d) → field g.signs (Numeric.F d) w r ≡ replicate w asterisk
     back (NoNumeral.decimal {x = y} e none) =
         let q : x ≡ y = ap decimal_of e in
-        (fields.stars_exactly_when plain (Numeric.F d) w r).1
+        (fields.stars_exactly_when g.signs (Numeric.F d) w r).1
         (λ t s. none t (rw (← q) ((rounded_is x.units x.places d (stands_for t)).1 s)))
 
 -- its characters, the columns being those of the field
-stars_none : (area : List ℕ) (f : Field ℕ) (k : Kind) (v : Value) → suits f (kind_of v) ≡ true → numeric f ≡ true
-    → (field_characters area f (field_width f k) v ≡ replicate (field_width f k) asterisk) ↔ NoNumeral v f
+stars_none : (area : List ℕ) (g : Settings) (f : Field ℕ) (k : Kind) (v : Value) → suits f (kind_of v) ≡ true → numeric f ≡ true
+    → (field_characters area g f (field_width f k) v ≡ replicate (field_width f k) asterisk) ↔ NoNumeral g v f
 unfolding field_characters
-stars_none area (Field.I w) k (value.Integer n) s e = integer_none n w
-stars_none area (Field.I w) k (value.Decimal x) s e = no_way s
-stars_none area (Field.I w) k (value.Logical b) s e = no_way s
-stars_none area (Field.I w) k (value.Text t) s e = no_way s
-stars_none area (Field.F w d) k (value.Integer n) s e = no_way s
-stars_none area (Field.F w d) k (value.Decimal x) s e = decimal_none x d w
-stars_none area (Field.F w d) k (value.Logical b) s e = no_way s
-stars_none area (Field.F w d) k (value.Text t) s e = no_way s
-stars_none area (Field.L w) k v s e = no_way e
-stars_none area Field.A k v s e = no_way e
-stars_none area (Field.Aw w) k v s e = no_way e
+stars_none area g (Field.I w) k (value.Integer n) s e = integer_none g n w
+stars_none area g (Field.I w) k (value.Decimal x) s e = no_way s
+stars_none area g (Field.I w) k (value.Logical b) s e = no_way s
+stars_none area g (Field.I w) k (value.Text t) s e = no_way s
+stars_none area g (Field.F w d) k (value.Integer n) s e = no_way s
+stars_none area g (Field.F w d) k (value.Decimal x) s e = decimal_none g x d w
+stars_none area g (Field.F w d) k (value.Logical b) s e = no_way s
+stars_none area g (Field.F w d) k (value.Text t) s e = no_way s
+stars_none area g (Field.L w) k v s e = no_way e
+stars_none area g Field.A k v s e = no_way e
+stars_none area g (Field.Aw w) k v s e = no_way e
 
 -- whether it is starred
-starred_none : (f : Field ℕ) (k : Kind) (v : Value) → suits f (kind_of v) ≡ true → (field_starred f (field_width f k) v ≡ true) ↔ NoNumeral v f
+starred_none : (g : Settings) (f : Field ℕ) (k : Kind) (v : Value) → suits f (kind_of v) ≡ true → (field_starred g f (field_width f k) v ≡ true) ↔ NoNumeral g v f
 unfolding field_starred field_characters
-starred_none (Field.I w) k v s =
-    let a = fields.starred_is plain Numeric.I w (integer_of v) in
-    let b = stars_none [] (Field.I w) k v s refl in
+starred_none g (Field.I w) k v s =
+    let a = fields.starred_is g.signs Numeric.I w (integer_of v) in
+    let b = stars_none [] g (Field.I w) k v s refl in
     ((λ e. b.0 (a.0 e)), (λ e. a.1 (b.1 e)))
-starred_none (Field.F w d) k v s =
-    let a = fields.starred_is plain (Numeric.F d) w (rounded_units (decimal_of v).units (decimal_of v).places d) in
-    let b = stars_none [] (Field.F w d) k v s refl in
+starred_none g (Field.F w d) k v s =
+    let a = fields.starred_is g.signs (Numeric.F d) w (rounded_units (decimal_of v).units (decimal_of v).places d) in
+    let b = stars_none [] g (Field.F w d) k v s refl in
     ((λ e. b.0 (a.0 e)), (λ e. a.1 (b.1 e)))
-starred_none (Field.L w) k v s = (no_way, elim [ ])
-starred_none Field.A k v s = (no_way, elim [ ])
-starred_none (Field.Aw w) k v s = (no_way, elim [ ])
+starred_none g (Field.L w) k v s = (no_way, elim [ ])
+starred_none g Field.A k v s = (no_way, elim [ ])
+starred_none g (Field.Aw w) k v s = (no_way, elim [ ])
 
 -- where there is a numeral, the field is one
-not_starred : (f : Field ℕ) (k : Kind) (v : Value) → suits f (kind_of v) ≡ true → (NoNumeral v f → ⊥) → field_starred f (field_width f k) v ≡ false
-not_starred f k v s none = go (field_starred f (field_width f k) v) refl
+not_starred : (g : Settings) (f : Field ℕ) (k : Kind) (v : Value) → suits f (kind_of v) ≡ true → (NoNumeral g v f → ⊥) → field_starred g f (field_width f k) v ≡ false
+not_starred g f k v s none = go (field_starred g f (field_width f k) v) refl
   where
-    go : (b : Bool) → field_starred f (field_width f k) v ≡ b → field_starred f (field_width f k) v ≡ false
-    go true e = absurd (none ((starred_none f k v s).0 e))
+    go : (b : Bool) → field_starred g f (field_width f k) v ≡ b → field_starred g f (field_width f k) v ≡ false
+    go true e = absurd (none ((starred_none g f k v s).0 e))
     go false e = e
 
-shows : (area : List ℕ) (f : Field ℕ) (k : Kind) (v : Value) → suits f (kind_of v) ≡ true → numeric f ≡ true → (NoNumeral v f → ⊥)
-    → Shows v (field_characters area f (field_width f k) v) f
+shows : (area : List ℕ) (g : Settings) (f : Field ℕ) (k : Kind) (v : Value) → suits f (kind_of v) ≡ true → numeric f ≡ true → (NoNumeral g v f → ⊥)
+    → Shows g v (field_characters area g f (field_width f k) v) f
 unfolding field_characters field_starred
-shows area (Field.I w) k (value.Integer n) s e none =
-    let u = fields.unstarred_is_numeral plain Numeric.I w n (not_starred (Field.I w) k (value.Integer n) s none) in
+shows area g (Field.I w) k (value.Integer n) s e none =
+    let u = fields.unstarred_is_numeral g.signs Numeric.I w n (not_starred g (Field.I w) k (value.Integer n) s none) in
     Shows.integer_shown u.0 refl u.1 u.2
-shows area (Field.I w) k (value.Decimal x) s e none = no_way s
-shows area (Field.I w) k (value.Logical b) s e none = no_way s
-shows area (Field.I w) k (value.Text t) s e none = no_way s
-shows area (Field.F w d) k (value.Integer n) s e none = no_way s
-shows area (Field.F w d) k (value.Decimal x) s e none =
+shows area g (Field.I w) k (value.Decimal x) s e none = no_way s
+shows area g (Field.I w) k (value.Logical b) s e none = no_way s
+shows area g (Field.I w) k (value.Text t) s e none = no_way s
+shows area g (Field.F w d) k (value.Integer n) s e none = no_way s
+shows area g (Field.F w d) k (value.Decimal x) s e none =
     let r : ℤ = rounded_units x.units x.places d in
-    let u = fields.unstarred_is_numeral plain (Numeric.F d) w r (not_starred (Field.F w d) k (value.Decimal x) s none) in
+    let u = fields.unstarred_is_numeral g.signs (Numeric.F d) w r (not_starred g (Field.F w d) k (value.Decimal x) s none) in
     Shows.decimal_shown u.0 refl ((rounded_is x.units x.places d r).1 refl) u.1 u.2
-shows area (Field.F w d) k (value.Logical b) s e none = no_way s
-shows area (Field.F w d) k (value.Text t) s e none = no_way s
-shows area (Field.L w) k v s e none = no_way e
-shows area Field.A k v s e none = no_way e
-shows area (Field.Aw w) k v s e none = no_way e
+shows area g (Field.F w d) k (value.Logical b) s e none = no_way s
+shows area g (Field.F w d) k (value.Text t) s e none = no_way s
+shows area g (Field.L w) k v s e none = no_way e
+shows area g Field.A k v s e none = no_way e
+shows area g (Field.Aw w) k v s e none = no_way e
 
 -- ---- a placement, its field having an element of its kind
 
 suited_value : (vs : List Value) {i : ℕ} {f : Field ℕ} {w : ℕ} → Suited (map kind_of vs) i f w → suits f (kind_of (value_at vs i)) ≡ true
 suited_value vs {i} {f} s = ap (suits f) (sym (get_or-map kind_of vs i zero_value)) ∙ s.suited
 
-pub field_stars : (area : List ℕ) (vs : List Value) (i : ℕ) (f : Field ℕ) (w : ℕ) → Suited (map kind_of vs) i f w → numeric f ≡ true
-    → (field_characters area f w (value_at vs i) ≡ replicate w asterisk) ↔ NoNumeral (value_at vs i) f
-field_stars area vs i f w s e = rw s.wide (stars_none area f (get_or (map kind_of vs) i integer) (value_at vs i) (suited_value vs s) e)
+pub field_stars : (area : List ℕ) (g : Settings) (vs : List Value) (i : ℕ) (f : Field ℕ) (w : ℕ) → Suited (map kind_of vs) i f w → numeric f ≡ true
+    → (field_characters area g f w (value_at vs i) ≡ replicate w asterisk) ↔ NoNumeral g (value_at vs i) f
+field_stars area g vs i f w s e = rw s.wide (stars_none area g f (get_or (map kind_of vs) i integer) (value_at vs i) (suited_value vs s) e)
 
-pub field_shows : (area : List ℕ) (vs : List Value) (i : ℕ) (f : Field ℕ) (w : ℕ) → Suited (map kind_of vs) i f w → numeric f ≡ true → (NoNumeral (value_at vs i) f → ⊥)
-    → Shows (value_at vs i) (field_characters area f w (value_at vs i)) f
-field_shows area vs i f w s e none = rw s.wide (shows area f (get_or (map kind_of vs) i integer) (value_at vs i) (suited_value vs s) e none)
+pub field_shows : (area : List ℕ) (g : Settings) (vs : List Value) (i : ℕ) (f : Field ℕ) (w : ℕ) → Suited (map kind_of vs) i f w → numeric f ≡ true → (NoNumeral g (value_at vs i) f → ⊥)
+    → Shows g (value_at vs i) (field_characters area g f w (value_at vs i)) f
+field_shows area g vs i f w s e none = rw s.wide (shows area g f (get_or (map kind_of vs) i integer) (value_at vs i) (suited_value vs s) e none)
 
-field_starred_lem : (vs : List Value) (i : ℕ) (f : Field ℕ) (w : ℕ) → Suited (map kind_of vs) i f w → (field_starred f w (value_at vs i) ≡ true) ↔ NoNumeral (value_at vs i) f
-field_starred_lem vs i f w s = rw s.wide (starred_none f (get_or (map kind_of vs) i integer) (value_at vs i) (suited_value vs s))
+field_starred_lem : (g : Settings) (vs : List Value) (i : ℕ) (f : Field ℕ) (w : ℕ) → Suited (map kind_of vs) i f w → (field_starred g f w (value_at vs i) ≡ true) ↔ NoNumeral g (value_at vs i) f
+field_starred_lem g vs i f w s = rw s.wide (starred_none g f (get_or (map kind_of vs) i integer) (value_at vs i) (suited_value vs s))
 
 abbrev SuitedAt : List Value → Placement → Type 0
 SuitedAt vs p = (i : ℕ) (f : Field ℕ) → p.what ≡ element i f → Suited (map kind_of vs) i f p.width
@@ -134,12 +135,12 @@ SuitedAt vs p = (i : ℕ) (f : Field ℕ) → p.what ≡ element i f → Suited 
 starred_so : (vs : List Value) (p : Placement) → SuitedAt vs p → (is_starred vs p ≡ true) ↔ Unrepresentable vs p
 starred_so vs p s = (go p.what refl, back)
   where
-    go : (what : What) → p.what ≡ what → starred_of vs p.width what ≡ true → Unrepresentable vs p
-    go (element i f) q e = record { i = i; f = f; is = q; none = (field_starred_lem vs i f p.width (s i f q)).0 e }
+    go : (what : What) → p.what ≡ what → starred_of vs p.settings p.width what ≡ true → Unrepresentable vs p
+    go (element i f) q e = record { i = i; f = f; is = q; none = (field_starred_lem p.settings vs i f p.width (s i f q)).0 e }
     go (literal cs) q e = no_way e
 
     back : Unrepresentable vs p → is_starred vs p ≡ true
-    back u = ap (starred_of vs p.width) u.is ∙ (field_starred_lem vs u.i u.f p.width (s u.i u.f u.is)).1 u.none
+    back u = ap (starred_of vs p.settings p.width) u.is ∙ (field_starred_lem p.settings vs u.i u.f p.width (s u.i u.f u.is)).1 u.none
 
 -- ---- the fields of a walk
 

@@ -1,6 +1,7 @@
 -- What the inner functions of writing do, from what their callees say.
 -- Assumes nothing.
 use Rattle.std.proofs.Common.{◌≡◌, refl, ap, subst, ◌∙◌, false, List, map, ℕ, ◌+◌, ◌*◌, ◌/◌, ◌≤◌, length, replicate, take, arith}
+use Rattle.std.specs.List.{All}
 use Rattle.std.specs.Prelude.{Some, IfSome, Result, Ok, Err}
 use native.Mathlib.Nat.{mul-le-mul_right}
 use Rattle.buffer.specs.Splice.{splice}
@@ -34,7 +35,8 @@ use Rattle.sheet_rows.proofs.Loads.{run_sheet_is}
 use Rattle.write_passes.specs.Placed.{characters, starred_in, Judged, accepted, refused, judged}
 use Rattle.write_passes.specs.declared.Sheet as code
 use Rattle.write_passes.specs.declared.checking.Checked.{Checked}
-use Rattle.write_passes.specs.Passes.{values_of, walk_of, BeginsIn, SomeSmallBegins, WholeIn, CheckedAs}
+use Rattle.write_passes.specs.Passes.{values_of, walk_of, BeginsIn, SomeSmallBegins, WholeIn, CheckedAs, sp_among, IsPlain}
+use Rattle.write_passes.proofs.LayLaws.{columns_plain}
 use Rattle.write_passes.proofs.PlacedLaws.{judged_ends}
 use Rattle.sheet_write.specs.Writing.{walked, writing_of}
 use Rattle.sheet_write.specs.Parts.{Wrote, WroteText}
@@ -69,6 +71,9 @@ module _ (s : code.Sheet) {n : ℕ} (a : judged (values_of s) (walk_of s) ≡ ac
   module _ {covers : List Cover} {count : ℕ} (w : WholeIn s covers n count) where
     pub whole_begins : SomeSmallBegins s 0 (take count covers)
     whole_begins = record { whole = walk_of s; taken = w.taken; left = done n; begins = w.begins; n = n; accepts = a }
+
+    pub whole_plain : sp_among s.run.words.now ≡ false → All IsPlain (take count covers)
+    whole_plain e = columns_plain s e (λ p i. i) w.begins
 
     pub whole_stars : {starred : ℕ} → ((taken : ℕ) (whole left : Trace) → BeginsIn s 0 (take count covers) whole taken left → starred + starred_in (values_of s) left ≡ starred_in (values_of s) whole)
         → starred ≡ starred_in (values_of s) (walk_of s)

@@ -4,7 +4,8 @@ use Rattle.std.specs.Prelude.{◌≡◌, ◌↔◌, Bool, true, false, List, map
 use Rattle.buffer.specs.Characters.{blank, asterisk}
 use Rattle.number.specs.Limits.{largest}
 use Rattle.number.specs.Rounding.{Nearest}
-use Rattle.field_written.specs.Numeral.{Numeric, plain, Numeral, stands_for}
+use Rattle.settings.specs.declared.Settings.{Settings}
+use Rattle.field_written.specs.Numeral.{Numeric, Numeral, stands_for}
 use Rattle.field_written.specs.Numeral as numeral
 use Rattle.field_written.specs.Promises.{AsWritten}
 use Rattle.format_items.specs.Items.{Field, Items}
@@ -146,38 +147,39 @@ numeric (Field.L w) = false
 numeric Field.A = false
 numeric (Field.Aw w) = false
 
--- 'no numeral of its width stands for the value rounded as its descriptor says'
-pub data NoNumeral (v : Value) : Field ℕ → Type 0 where
-  integer : {n : ℤ} {w : ℕ} → v ≡ value.Integer n → ((t : Numeral plain Numeric.I w) → stands_for t ≡ n → ⊥) → NoNumeral v (Field.I w)
-  decimal : {x : Decimal} {w d : ℕ} → v ≡ value.Decimal x → ((t : Numeral plain (Numeric.F d) w) → Nearest x.units x.places d (stands_for t) → ⊥)
-      → NoNumeral v (Field.F w d)
+-- 'no numeral of its width stands for the value rounded as its descriptor says'; 'the asterisk rule is read with the numerals that the
+-- setting permits'
+pub data NoNumeral (g : Settings) (v : Value) : Field ℕ → Type 0 where
+  integer : {n : ℤ} {w : ℕ} → v ≡ value.Integer n → ((t : Numeral g.signs Numeric.I w) → stands_for t ≡ n → ⊥) → NoNumeral g v (Field.I w)
+  decimal : {x : Decimal} {w d : ℕ} → v ≡ value.Decimal x → ((t : Numeral g.signs (Numeric.F d) w) → Nearest x.units x.places d (stands_for t) → ⊥)
+      → NoNumeral g v (Field.F w d)
 
 -- 'In every accepted writing .. a numeric field puts asterisks in all its columns, overwritten later or not, exactly when no
 -- numeral of its width stands for the value rounded as its descriptor says.'
 abbrev pub StarsExactlyWhen : Type 0
 StarsExactlyWhen =
     (c : Call) (t : Trace) (n : ℕ) → becomes c ≡ accepts t n → (p : Placement) → In p t → (i : ℕ) (f : Field ℕ) → p.what ≡ element i f
-    → numeric f ≡ true → (characters c.area (values_of c) p ≡ replicate p.width asterisk) ↔ NoNumeral (value_at (values_of c) i) f
+    → numeric f ≡ true → (characters c.area (values_of c) p ≡ replicate p.width asterisk) ↔ NoNumeral p.settings (value_at (values_of c) i) f
 
--- the characters cs are the numeral of a field's width that stands for the value, written as the rules have it
-pub data Shows (v : Value) (cs : List ℕ) : Field ℕ → Type 0 where
-  integer_shown : {n : ℤ} {w : ℕ} (t : Numeral plain Numeric.I w) → v ≡ value.Integer n → numeral.characters t ≡ cs → AsWritten plain Numeric.I w n t
-      → Shows v cs (Field.I w)
-  decimal_shown : {x : Decimal} {w d : ℕ} {r : ℤ} (t : Numeral plain (Numeric.F d) w) → v ≡ value.Decimal x → Nearest x.units x.places d r
-      → numeral.characters t ≡ cs → AsWritten plain (Numeric.F d) w r t → Shows v cs (Field.F w d)
+-- the characters cs are the numeral of a field's width that stands for the value, written as the rules have it under these settings
+pub data Shows (g : Settings) (v : Value) (cs : List ℕ) : Field ℕ → Type 0 where
+  integer_shown : {n : ℤ} {w : ℕ} (t : Numeral g.signs Numeric.I w) → v ≡ value.Integer n → numeral.characters t ≡ cs → AsWritten g.signs Numeric.I w n t
+      → Shows g v cs (Field.I w)
+  decimal_shown : {x : Decimal} {w d : ℕ} {r : ℤ} (t : Numeral g.signs (Numeric.F d) w) → v ≡ value.Decimal x → Nearest x.units x.places d r
+      → numeral.characters t ≡ cs → AsWritten g.signs (Numeric.F d) w r t → Shows g v cs (Field.F w d)
 
 -- where some numeral of the field's width stands for the value, the field is the one that the rules describe
 abbrev pub NumeralsShown : Type 0
 NumeralsShown =
     (c : Call) (t : Trace) (n : ℕ) → becomes c ≡ accepts t n → (p : Placement) → In p t → (i : ℕ) (f : Field ℕ) → p.what ≡ element i f
-    → numeric f ≡ true → (NoNumeral (value_at (values_of c) i) f → ⊥) → Shows (value_at (values_of c) i) (characters c.area (values_of c) p) f
+    → numeric f ≡ true → (NoNumeral p.settings (value_at (values_of c) i) f → ⊥) → Shows p.settings (value_at (values_of c) i) (characters c.area (values_of c) p) f
 
 -- a placement of a numeric field where no numeral of its width stands for the value
 pub record Unrepresentable (vs : List Value) (p : Placement) : Type 0 where
   pub i : ℕ
   pub f : Field ℕ
   pub is : p.what ≡ element i f
-  pub none : NoNumeral (value_at vs i) f
+  pub none : NoNumeral p.settings (value_at vs i) f
 
 -- k of the walk's placements have the property P
 pub data Counted (P : Placement → Type 0) : Trace → ℕ → Type 0 where

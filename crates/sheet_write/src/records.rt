@@ -6,9 +6,9 @@ ghost use Rattle.sheet_write.specs.Parts.{Wrote};
 
 use sheet_walk::placing::{FEW_ELEMENTS, PART, SMALL_PART};
 use sheet_walk::{Counts, Cover, Refusal};
-use write_passes::Sheet;
 use write_passes::checking::check_pass;
 use write_passes::laying::{lay, lay_pass};
+use write_passes::{Sheet, has_sp};
 
 // With room for so many items at once. Not inlined, so that a call's stack holds the room of one size.
 #[inline(never)]
@@ -20,7 +20,7 @@ fn write_parts(sheet: Sheet<'_>, buffer: &mut [u8], covers: &mut [Cover]) -> Res
     let checked = check_pass(sheet, covers)?;
     buffer[..checked.records * sheet.records.width].fill(b' ');
     let starred = match checked.whole {
-        Some(count) => lay(buffer, &covers[..count], 0, sheet),
+        Some(count) => lay(buffer, &covers[..count], 0, has_sp(sheet.run.words), sheet),
         None => lay_pass(buffer, sheet, covers),
     };
     Ok(Counts {

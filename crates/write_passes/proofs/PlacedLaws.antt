@@ -7,7 +7,8 @@ use Prim.Native.Nat.{ℕ}
 use native.Mathlib.Omega.{arith}
 use lib.ListN.{length}
 use Rattle.number.specs.Rounding.{rounded_units}
-use Rattle.field_written.specs.Numeral.{Numeric, plain}
+use Rattle.settings.specs.declared.Settings.{Settings}
+use Rattle.field_written.specs.Numeral.{Numeric}
 use Rattle.field_written.proofs.Promises.{field_length}
 use Rattle.field_written.proofs.Letters.{length_logical, length_text}
 use Rattle.format_items.specs.Items.{Field}
@@ -28,21 +29,21 @@ use Rattle.sheet_walk.proofs.FieldRanges.{fields_within}
 
 -- ---- as many characters as columns
 
-pub field_long : (area : List ℕ) (f : Field ℕ) (k : Kind) (w : ℕ) (v : Value) → MetWithin (Met.field f) → w ≡ field_width f k → length (field_characters area f w v) ≡ w
+pub field_long : (area : List ℕ) (g : Settings) (f : Field ℕ) (k : Kind) (w : ℕ) (v : Value) → MetWithin (Met.field f) → w ≡ field_width f k → length (field_characters area g f w v) ≡ w
 unfolding field_characters
-field_long area (Field.I u) k w v m e = field_length plain Numeric.I w (integer_of v)
-field_long area (Field.F u d) k w v m e = field_length plain (Numeric.F d) w (rounded_units (decimal_of v).units (decimal_of v).places d)
-field_long area (Field.L u) k w v m e = length_logical w (logical_of v) (omega (arith, m.0))
-field_long area Field.A k w v m e = length_text w (text_bytes area (span_of v))
-field_long area (Field.Aw u) k w v m e = length_text w (text_bytes area (span_of v))
+field_long area g (Field.I u) k w v m e = field_length g.signs Numeric.I w (integer_of v)
+field_long area g (Field.F u d) k w v m e = field_length g.signs (Numeric.F d) w (rounded_units (decimal_of v).units (decimal_of v).places d)
+field_long area g (Field.L u) k w v m e = length_logical w (logical_of v) (omega (arith, m.0))
+field_long area g Field.A k w v m e = length_text w (text_bytes area (span_of v))
+field_long area g (Field.Aw u) k w v m e = length_text w (text_bytes area (span_of v))
 
 pub characters_long : (area : List ℕ) (vs : List Value) (h : Sheet) → Walkable h → (p : Placement) → In p (walk h) → length (characters area vs p) ≡ p.width
 characters_long area vs h w p m = go p.what refl
   where
-    go : (what : What) → p.what ≡ what → length (characters_of area vs p.width what) ≡ p.width
+    go : (what : What) → p.what ≡ what → length (characters_of area vs p.settings p.width what) ≡ p.width
     go (element i f) e =
         let s = elements_suited h p m i f e in
-        field_long area f _ p.width (value_at vs i) (fields_within h w p m i f e) s.wide
+        field_long area p.settings f _ p.width (value_at vs i) (fields_within h w p m i f e) s.wide
     go (literal cs) e = sym (literals_wide h p m cs e)
 
 -- ---- an accepted walk

@@ -7,7 +7,10 @@ use mir.Syntax.{w64}
 use Rattle.buffer.proofs.Tests.{no_way}
 use Rattle.number.specs.Limits.{largest, most_places}
 use Rattle.number.specs.Rounding.{rounded_units, too_large}
-use Rattle.field_written.specs.Numeral.{Numeric, plain}
+use Rattle.settings.specs.Settings.{start_settings}
+use Rattle.settings.specs.declared.SignSetting.{SignSetting}
+use Rattle.settings.specs.declared.Settings.{Settings}
+use Rattle.field_written.specs.Numeral.{Numeric}
 use Rattle.field_written.specs.Written.{field, starred, decimal_field, put_decimal, decimal_part}
 use Rattle.field_written.specs.LogicalField.{logical_field}
 use Rattle.field_written.specs.TextField.{text_field}
@@ -22,13 +25,13 @@ use Rattle.write_passes.specs.Placed.{field_characters, field_starred, field_too
 use Rattle.write_passes.specs.Passes.{FieldOf}
 
 -- what a field w columns wide puts of v: whether it is too large, whether it is starred, and its characters
-pub record Puts (area : List ℕ) (f : Field ℕ) (w : ℕ) (v : Value) (large stars : Bool) (characters : List ℕ) : Type 0 where
+pub record Puts (area : List ℕ) (g : Settings) (f : Field ℕ) (w : ℕ) (v : Value) (large stars : Bool) (characters : List ℕ) : Type 0 where
   pub is_large : field_too_large f v ≡ large
-  pub is_starred : field_starred f w v ≡ stars
-  pub are : field_characters area f w v ≡ characters
+  pub is_starred : field_starred g f w v ≡ stars
+  pub are : field_characters area g f w v ≡ characters
 
-module _ (area : List ℕ) (w : ℕ) {d : ℕ} where
-  pub integer_puts : (n : ℤ) (f : Field ℕ) → FieldOf (value.Integer n) d f → Puts area f w (value.Integer n) false (starred plain Numeric.I w n) (field plain Numeric.I w n)
+module _ (area : List ℕ) (g : Settings) (w : ℕ) {d : ℕ} where
+  pub integer_puts : (n : ℤ) (f : Field ℕ) → FieldOf (value.Integer n) d f → Puts area g f w (value.Integer n) false (starred g.signs Numeric.I w n) (field g.signs Numeric.I w n)
   unfolding field_characters field_starred field_too_large
   integer_puts n (Field.I u) o = record { is_large = refl; is_starred = refl; are = refl }
   integer_puts n (Field.F u e) o = no_way o.suited
@@ -37,7 +40,7 @@ module _ (area : List ℕ) (w : ℕ) {d : ℕ} where
   integer_puts n (Field.Aw u) o = no_way o.suited
 
   pub decimal_puts : (x : Decimal) (f : Field ℕ) → FieldOf (value.Decimal x) d f
-      → Puts area f w (value.Decimal x) (too_large x.units x.places d) (starred plain (Numeric.F d) w (rounded_units x.units x.places d)) (decimal_field plain w d x.units x.places)
+      → Puts area g f w (value.Decimal x) (too_large x.units x.places d) (starred g.signs (Numeric.F d) w (rounded_units x.units x.places d)) (decimal_field g.signs w d x.units x.places)
   unfolding field_characters field_starred field_too_large
   decimal_puts x (Field.I u) o = no_way o.suited
   decimal_puts x (Field.F u e) o = rw o.places (record { is_large = refl; is_starred = refl; are = refl })
@@ -45,7 +48,7 @@ module _ (area : List ℕ) (w : ℕ) {d : ℕ} where
   decimal_puts x Field.A o = no_way o.suited
   decimal_puts x (Field.Aw u) o = no_way o.suited
 
-  pub logical_puts : (b : Bool) (f : Field ℕ) → FieldOf (value.Logical b) d f → Puts area f w (value.Logical b) false false (logical_field w b)
+  pub logical_puts : (b : Bool) (f : Field ℕ) → FieldOf (value.Logical b) d f → Puts area g f w (value.Logical b) false false (logical_field w b)
   unfolding field_characters field_starred field_too_large
   logical_puts b (Field.I u) o = no_way o.suited
   logical_puts b (Field.F u e) o = no_way o.suited
@@ -53,7 +56,7 @@ module _ (area : List ℕ) (w : ℕ) {d : ℕ} where
   logical_puts b Field.A o = no_way o.suited
   logical_puts b (Field.Aw u) o = no_way o.suited
 
-  pub text_puts : (t : Text) (f : Field ℕ) → FieldOf (value.Text t) d f → Puts area f w (value.Text t) false false (text_field w (text_bytes area t))
+  pub text_puts : (t : Text) (f : Field ℕ) → FieldOf (value.Text t) d f → Puts area g f w (value.Text t) false false (text_field w (text_bytes area t))
   unfolding field_characters field_starred field_too_large
   text_puts t (Field.I u) o = no_way o.suited
   text_puts t (Field.F u e) o = no_way o.suited
@@ -63,10 +66,10 @@ module _ (area : List ℕ) (w : ℕ) {d : ℕ} where
 
 -- only a decimal can be too large
 pub other_large : {d : ℕ} (v : Value) (f : Field ℕ) → ((x : Decimal) → v ≡ value.Decimal x → ⊥) → FieldOf v d f → field_too_large f v ≡ false
-other_large (value.Integer n) f u o = (integer_puts [] 0 n f o).is_large
+other_large (value.Integer n) f u o = (integer_puts [] start_settings 0 n f o).is_large
 other_large (value.Decimal x) f u o = absurd (u x refl)
-other_large (value.Logical b) f u o = (logical_puts [] 0 b f o).is_large
-other_large (value.Text t) f u o = (text_puts [] 0 t f o).is_large
+other_large (value.Logical b) f u o = (logical_puts [] start_settings 0 b f o).is_large
+other_large (value.Text t) f u o = (text_puts [] start_settings 0 t f o).is_large
 
 -- the places of a decimal's field are few
 pub few_places : {x : Decimal} {d : ℕ} (f : Field ℕ) → FieldOf (value.Decimal x) d f → d ≤ most_places
@@ -84,11 +87,11 @@ as_bits (negsuc n) h = from_bits (negsuc n) (omega arith)
 
 -- ---- the answer of writing a decimal that is not too large
 
-module _ (w d : ℕ) (u : ℤ) (s : ℕ) (small : too_large u s d ≡ false) where
-  pub decimal_answer : put_decimal plain w d u s ≡ Ok (starred plain (Numeric.F d) w (rounded_units u s d))
+module _ (g : SignSetting) (w d : ℕ) (u : ℤ) (s : ℕ) (small : too_large u s d ≡ false) where
+  pub decimal_answer : put_decimal g w d u s ≡ Ok (starred g (Numeric.F d) w (rounded_units u s d))
   unfolding put_decimal
   decimal_answer = rw small
 
-  pub decimal_bytes : (part : List ℕ) → length part ≡ w → decimal_part plain part d u s ≡ decimal_field plain w d u s
+  pub decimal_bytes : (part : List ℕ) → length part ≡ w → decimal_part g part d u s ≡ decimal_field g w d u s
   unfolding decimal_part
   decimal_bytes part l = rw (small, l)

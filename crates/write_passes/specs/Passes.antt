@@ -1,10 +1,17 @@
 -- What the passes of writing over the walk are given and answer. (Nothing here need be believed: the public call's contract does
 -- not speak of it.)
 -- Assumes nothing.
-use Rattle.std.specs.Prelude.{◌≡◌, false, true, List, ℕ, ◌≤◌, Option, Some, None, IfSome, Result, Ok, Err, length, take}
+use Rattle.std.specs.Prelude.{◌≡◌, Bool, false, true, List, ℕ, ◌≤◌, Option, Some, None, IfSome, Result, Ok, Err, length, take}
+use Rattle.std.specs.List.{list_any}
+use Rattle.settings.specs.Settings.{start_settings}
+use Rattle.settings.specs.declared.SettingItem.TheVariants.{SP, SS, S}
 use Rattle.format_items.specs.Items.{Field}
 use Rattle.format_items.specs.Met.{Met}
 use Rattle.format_items.specs.MetRanges.{MetWithin}
+use Rattle.format_words.specs.Packing.{word_in}
+use Rattle.format_words.specs.declared.packed.Packed.{Packed}
+use Rattle.format_words.specs.declared.Word.{Word}
+use Rattle.format_words.specs.declared.Word.TheVariants as word
 use Rattle.list_elements.specs.Elements.{kind_of}
 use Rattle.list_elements.specs.Checked.{values_in}
 use Rattle.list_elements.specs.declared.Value.{Value}
@@ -87,3 +94,28 @@ pub record WholeIn (s : Sheet) (covers : List Cover) (records n : ℕ) : Type 0 
 abbrev pub CheckedAs : Sheet → List Cover → Judged → Result Checked Refusal → Type 0
 CheckedAs s covers j (Ok c) = (j ≡ accepted c.records) × IfSome c.whole (WholeIn s covers c.records)
 CheckedAs s covers j (Err why) = j ≡ refused why
+
+-- ---- items SP
+
+-- whether a word is that of SP
+abbrev pub word_is_sp : Word → Bool
+word_is_sp (word.I w) = false
+word_is_sp (word.F w d) = false
+word_is_sp (word.L w) = false
+word_is_sp word.A = false
+word_is_sp (word.Aw w) = false
+word_is_sp (word.X n) = false
+word_is_sp (word.T n) = false
+word_is_sp word.Slash = false
+word_is_sp (word.Literal start n) = false
+word_is_sp (word.Setting SP) = true
+word_is_sp (word.Setting SS) = false
+word_is_sp (word.Setting S) = false
+
+-- whether some word is
+abbrev pub sp_among : List Packed → Bool
+sp_among ws = list_any (λ p. word_is_sp (word_in p)) ws
+
+-- columns covered under the settings at the start
+abbrev pub IsPlain : Cover → Type 0
+IsPlain c = c.settings ≡ start_settings

@@ -1,8 +1,9 @@
--- The rules, 'Fields written': what each placement of the walk puts into its columns in writing.
+-- The rules, 'Fields written' and 'Plus signs': what each placement of the walk puts into its columns in writing.
 -- Assumes nothing.
 use Rattle.std.specs.Prelude.{Bool, false, cond, List, ℕ, ◌+◌, ℤ, pos, get_or}
 use Rattle.number.specs.Rounding.{rounded_units, too_large}
-use Rattle.field_written.specs.Numeral.{Numeric, plain}
+use Rattle.settings.specs.declared.Settings.{Settings}
+use Rattle.field_written.specs.Numeral.{Numeric}
 use Rattle.field_written.specs.Written.{field, starred, decimal_field}
 use Rattle.field_written.specs.LogicalField.{logical_field}
 use Rattle.field_written.specs.TextField.{text_field}
@@ -43,23 +44,23 @@ span_of (value.Decimal x) = record { start = 0; len = 0 }
 span_of (value.Logical b) = record { start = 0; len = 0 }
 span_of (value.Text t) = t
 
--- ---- the field of a value, w columns wide
+-- ---- the field of a value, w columns wide, under settings
 
 -- its characters
-unfoldable pub field_characters : List ℕ → Field ℕ → ℕ → Value → List ℕ
-field_characters area (Field.I _) w v = field plain Numeric.I w (integer_of v)
-field_characters area (Field.F _ d) w v = decimal_field plain w d (decimal_of v).units (decimal_of v).places
-field_characters area (Field.L _) w v = logical_field w (logical_of v)
-field_characters area Field.A w v = text_field w (text_bytes area (span_of v))
-field_characters area (Field.Aw _) w v = text_field w (text_bytes area (span_of v))
+unfoldable pub field_characters : List ℕ → Settings → Field ℕ → ℕ → Value → List ℕ
+field_characters area g (Field.I _) w v = field g.signs Numeric.I w (integer_of v)
+field_characters area g (Field.F _ d) w v = decimal_field g.signs w d (decimal_of v).units (decimal_of v).places
+field_characters area g (Field.L _) w v = logical_field w (logical_of v)
+field_characters area g Field.A w v = text_field w (text_bytes area (span_of v))
+field_characters area g (Field.Aw _) w v = text_field w (text_bytes area (span_of v))
 
 -- 'A numeric field is starred when it puts w asterisks'
-unfoldable pub field_starred : Field ℕ → ℕ → Value → Bool
-field_starred (Field.I _) w v = starred plain Numeric.I w (integer_of v)
-field_starred (Field.F _ d) w v = starred plain (Numeric.F d) w (rounded_units (decimal_of v).units (decimal_of v).places d)
-field_starred (Field.L _) w v = false
-field_starred Field.A w v = false
-field_starred (Field.Aw _) w v = false
+unfoldable pub field_starred : Settings → Field ℕ → ℕ → Value → Bool
+field_starred g (Field.I _) w v = starred g.signs Numeric.I w (integer_of v)
+field_starred g (Field.F _ d) w v = starred g.signs (Numeric.F d) w (rounded_units (decimal_of v).units (decimal_of v).places d)
+field_starred g (Field.L _) w v = false
+field_starred g Field.A w v = false
+field_starred g (Field.Aw _) w v = false
 
 -- row 11: 'rounded units too large'
 unfoldable pub field_too_large : Field ℕ → Value → Bool
@@ -75,19 +76,19 @@ field_too_large (Field.Aw _) v = false
 abbrev pub value_at : List Value → ℕ → Value
 value_at vs i = get_or vs i zero_value
 
-abbrev pub characters_of : List ℕ → List Value → ℕ → What → List ℕ
-characters_of area vs w (element i f) = field_characters area f w (value_at vs i)
-characters_of area vs w (literal cs) = cs
+abbrev pub characters_of : List ℕ → List Value → Settings → ℕ → What → List ℕ
+characters_of area vs g w (element i f) = field_characters area g f w (value_at vs i)
+characters_of area vs g w (literal cs) = cs
 
 abbrev pub characters : List ℕ → List Value → Placement → List ℕ
-characters area vs p = characters_of area vs p.width p.what
+characters area vs p = characters_of area vs p.settings p.width p.what
 
-abbrev pub starred_of : List Value → ℕ → What → Bool
-starred_of vs w (element i f) = field_starred f w (value_at vs i)
-starred_of vs w (literal cs) = false
+abbrev pub starred_of : List Value → Settings → ℕ → What → Bool
+starred_of vs g w (element i f) = field_starred g f w (value_at vs i)
+starred_of vs g w (literal cs) = false
 
 abbrev pub is_starred : List Value → Placement → Bool
-is_starred vs p = starred_of vs p.width p.what
+is_starred vs p = starred_of vs p.settings p.width p.what
 
 -- the number of starred fields, 'overwritten or not'
 unfoldable pub starred_in : List Value → Trace → ℕ

@@ -10,6 +10,7 @@ use field_written::integer::write_integer;
 use field_written::logical::write_logical;
 use field_written::text::write_text;
 use list_elements::Value;
+use settings::Settings;
 
 // Whether the value is too large for its field, which has so many places: only a decimal can be.
 #[inline(always)]
@@ -24,18 +25,21 @@ pub fn too_large(places: usize, value: Value) -> bool
     number::rounding::too_large(d.units, d.places, places)
 }
 
-// Puts the field of a value, which is not too large, into its columns; whether the field is starred.
+// Puts the field of a value, which is not too large, into its columns, under settings; whether the field is starred. (Inlined, as is
+// what it calls, into both copies of `lay_under`.)
 #[inline(always)]
-pub fn put(part: &mut [u8], places: usize, value: Value, area: &[u8]) -> bool
+pub fn put(part: &mut [u8], places: usize, settings: Settings, value: Value, area: &[u8]) -> bool
     requires good { within_limits area.now value ≡ true }
     requires wide { 1 ≤ length part.old }
     requires field { SomeSmallField value places }
-    ensures stars { (f : Field ℕ) → FieldOf value places f → result ≡ field_starred f (length part.old) value }
-    ensures bytes { (f : Field ℕ) → FieldOf value places f → part.new ≡ field_characters area.now f (length part.old) value }
+    ensures stars { (f : Field ℕ) → FieldOf value places f → result ≡ field_starred settings f (length part.old) value }
+    ensures bytes { (f : Field ℕ) → FieldOf value places f → part.new ≡ field_characters area.now settings f (length part.old) value }
 {
     match value {
-        Value::Integer(n) => write_integer(part, n),
-        Value::Decimal(d) => { write_decimal(part, places, d.units, d.places).unwrap() }
+        Value::Integer(n) => write_integer(part, n, settings.signs),
+        Value::Decimal(d) => {
+            write_decimal(part, places, d.units, d.places, settings.signs).unwrap()
+        }
         Value::Logical(b) => {
             write_logical(part, b);
             false

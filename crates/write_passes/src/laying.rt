@@ -1,23 +1,44 @@
 // What covers columns, laid in the records, for a walk that was accepted.
-ghost use Rattle.std.specs.Prelude.{◌≡◌, ℕ, ◌+◌, ◌*◌, ◌≤◌, length};
+ghost use Rattle.std.specs.Prelude.{◌≡◌, false, ℕ, ◌+◌, ◌*◌, ◌≤◌, length, All};
+ghost use Rattle.settings.specs.Settings.{start_settings};
 ghost use Rattle.sheet_walk.specs.Walk.{Trace};
 ghost use Rattle.sheet_walk.specs.Laid.{laid};
 ghost use Rattle.write_passes.specs.Placed.{characters, starred_in};
-ghost use Rattle.write_passes.specs.Passes.{values_of, walk_of, BeginsIn, SomeSmallBegins, SomeAccepted};
+ghost use Rattle.write_passes.specs.Passes.{values_of, walk_of, BeginsIn, SomeSmallBegins, SomeAccepted, IsPlain};
 
-use crate::Sheet;
 use crate::fields::{put, put_literal};
+use crate::{Sheet, has_sp};
+use settings::Settings;
 use sheet_walk::Cover;
 use sheet_walk::placing::Stop;
 use sheet_walk::walk::Walk;
 
+// The settings of what covers columns: where no item is SP, those at the start, which the compiler knows.
+#[inline(always)]
+fn known<const SP: bool>(settings: Settings) -> Settings
+    requires { SP ≡ false → settings ≡ start_settings }
+    ensures { result ≡ settings }
+{
+    if SP {
+        return settings;
+    }
+    Settings::START
+}
+
 // Lays what covers these columns, in the order of the walk, so that a later item overwrites; so many elements are taken before.
 // How many fields are starred. (That the records lie in the buffer stands in the contracts of those who lend it: a ghost field
-// beside a lent `&mut` is not possible.) Not inlined: both ways of writing have it once.
+// beside a lent `&mut` is not possible.) Compiled twice, so that no setting is tested where no item is SP; and not inlined: both
+// ways of writing have it once.
 #[inline(never)]
-pub fn lay(buffer: &mut [u8], covers: &[Cover], first: usize, sheet: Sheet<'_>) -> usize
+fn lay_under<const SP: bool>(
+    buffer: &mut [u8],
+    covers: &[Cover],
+    first: usize,
+    sheet: Sheet<'_>,
+) -> usize
     requires room { sheet.records.count * sheet.records.width ≤ length buffer.old }
     requires begins { SomeSmallBegins sheet first covers.now }
+    requires plain { SP ≡ false → All IsPlain covers.now }
     ensures few { result ≤ length covers.now }
     ensures stars { (taken : ℕ) (whole left : Trace) → BeginsIn sheet.entry first covers.now whole taken left → result + starred_in (values_of sheet.entry) left ≡ starred_in (values_of sheet.entry) whole }
     ensures bytes { (taken : ℕ) (whole left : Trace) → BeginsIn sheet.entry first covers.now whole taken left → laid sheet.entry.records.width (characters sheet.entry.list.area.now (values_of sheet.entry)) left buffer.new ≡ laid sheet.entry.records.width (characters sheet.entry.list.area.now (values_of sheet.entry)) whole buffer.old }
@@ -30,12 +51,34 @@ pub fn lay(buffer: &mut [u8], covers: &[Cover], first: usize, sheet: Sheet<'_>) 
             put_literal(part, cover.word.detail(), sheet.run.chars);
         } else {
             let value = sheet.list.elements[taken].value;
-            let stars = put(part, cover.word.detail(), value, sheet.list.area);
+            let stars = put(
+                part,
+                cover.word.detail(),
+                known::<SP>(cover.settings),
+                value,
+                sheet.list.area,
+            );
             starred += usize::from(stars);
             taken += 1;
         }
     }
     starred
+}
+
+// The same; `sp` says whether some item is SP.
+#[inline(always)]
+pub fn lay(buffer: &mut [u8], covers: &[Cover], first: usize, sp: bool, sheet: Sheet<'_>) -> usize
+    requires room { sheet.records.count * sheet.records.width ≤ length buffer.old }
+    requires begins { SomeSmallBegins sheet first covers.now }
+    requires plain { sp ≡ false → All IsPlain covers.now }
+    ensures few { result ≤ length covers.now }
+    ensures stars { (taken : ℕ) (whole left : Trace) → BeginsIn sheet.entry first covers.now whole taken left → result + starred_in (values_of sheet.entry) left ≡ starred_in (values_of sheet.entry) whole }
+    ensures bytes { (taken : ℕ) (whole left : Trace) → BeginsIn sheet.entry first covers.now whole taken left → laid sheet.entry.records.width (characters sheet.entry.list.area.now (values_of sheet.entry)) left buffer.new ≡ laid sheet.entry.records.width (characters sheet.entry.list.area.now (values_of sheet.entry)) whole buffer.old }
+{
+    if sp {
+        return lay_under::<true>(buffer, covers, first, sheet);
+    }
+    lay_under::<false>(buffer, covers, first, sheet)
 }
 
 // The whole walk, which was accepted, part by part; how many fields are starred.
@@ -47,11 +90,12 @@ pub fn lay_pass(buffer: &mut [u8], sheet: Sheet<'_>, covers: &mut [Cover]) -> us
     ensures bytes { buffer.new ≡ laid sheet.entry.records.width (characters sheet.entry.list.area.now (values_of sheet.entry)) (walk_of sheet.entry) buffer.old }
 {
     let mut starred: usize = 0;
+    let sp = has_sp(sheet.run.words);
     let mut walk = Walk::new(sheet.run, sheet.list.elements, sheet.records);
     loop {
         let first = walk.taken();
         let placed = walk.place(covers);
-        starred += lay(buffer, &covers[..placed.count], first, sheet);
+        starred += lay(buffer, &covers[..placed.count], first, sp, sheet);
         let Stop::Full = placed.stop else {
             return starred;
         };

@@ -1,8 +1,8 @@
-use Rattle.std.proofs.Common.{rules, ◌≡◌, refl, sym, ◌*◌, ◌≤◌, length}
+use Rattle.std.proofs.Common.{rules, ◌≡◌, refl, sym, ◌∙◌, ◌*◌, ◌≤◌, length}
 use Rattle.std.specs.Prelude.{Err}
 use lib.Seq.{length-take-le}
 use Rattle.buffer.proofs.Splicing.{splice_front}
-use Rattle.sheet_write.proofs.WriteLaws.{check_accepted, check_whole, check_refused, reached, wrote_accepted, whole_begins, whole_stars, whole_bytes}
+use Rattle.sheet_write.proofs.WriteLaws.{check_accepted, check_whole, check_refused, reached, wrote_accepted, whole_begins, whole_plain, whole_stars, whole_bytes}
 use Rattle.sheet_write.proofs.records.write_parts.Goals as goal
 use Rattle.sheet_write.proofs.records.write_parts.Goals.{In_ok-checked}
 
@@ -30,6 +30,12 @@ lay-starred-requires-clause-begins c =
     let covers = c.check_pass.new.covers in
     let a = (check_accepted c.args.sheet covers _ c.check_pass.ensures c.in_ok-checked.was).0 in
     whole_begins c.args.sheet a (check_whole c.args.sheet covers _ c.check_pass.ensures c.in_ok-checked.was c.in-Some.is)
+
+pub lay-starred-requires-clause-plain : goal.lay-starred-requires-clause-plain
+lay-starred-requires-clause-plain c =
+    let covers = c.check_pass.new.covers in
+    let a = (check_accepted c.args.sheet covers _ c.check_pass.ensures c.in_ok-checked.was).0 in
+    λ e. whole_plain c.args.sheet a (check_whole c.args.sheet covers _ c.check_pass.ensures c.in_ok-checked.was c.in-Some.is) (sym c.has_sp.ensures ∙ e)
 
 pub lay_pass-starred-requires-clause-accepts : goal.lay_pass-starred-requires-clause-accepts
 lay_pass-starred-requires-clause-accepts c =

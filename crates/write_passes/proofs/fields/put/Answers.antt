@@ -3,7 +3,7 @@ use Rattle.std.specs.Prelude.{Ok}
 use Rattle.std.proofs.lemmas.List.{take_rest}
 use borrow.Author.Rules.{rules}
 use Rattle.number.specs.Rounding.{rounded_units, too_large}
-use Rattle.field_written.specs.Numeral.{Numeric, plain}
+use Rattle.field_written.specs.Numeral.{Numeric}
 use Rattle.field_written.specs.Written.{starred}
 use Rattle.list_elements.proofs.WithinLaws.{within_integer, within_decimal, within_text}
 use Rattle.list_elements.specs.Elements.{text_bytes}
@@ -31,8 +31,8 @@ unwrap-requires c =
     let x = c.in-Decimal in
     let g = c.requires.field in
     let h = within_decimal c.args.area.now x.d (rw x.is at c.requires.good) in
-    let p = decimal_puts c.args.area.now (length c.args.part.now) x.d g.f (rw x.is at g.is) in
-    rw (c.write_decimal.ensures.answer, as_bits x.d.units h.0, decimal_answer _ c.args.places x.d.units x.d.places (sym p.is_large ∙ (rw x.is at g.small))) refl
+    let p = decimal_puts c.args.area.now c.args.settings (length c.args.part.now) x.d g.f (rw x.is at g.is) in
+    rw (c.write_decimal.ensures.answer, as_bits x.d.units h.0, decimal_answer c.args.settings.signs _ c.args.places x.d.units x.d.places (sym p.is_large ∙ (rw x.is at g.small))) refl
 
 pub slice_bounds-write_text-count : goal.slice_bounds-write_text-count
 slice_bounds-write_text-count c = let h = (within_text c.args.area.now c.in-Text.t (rw c.in-Text.is at c.requires.good)).inside in omega arith
@@ -48,8 +48,8 @@ returns-in-Integer c =
     let n = c.in-Integer in
     let h = within_integer c.args.area.now n.n (rw n.is at c.requires.good) in
     record {
-      stars = λ f o. rw n.is ((rw (as_bits n.n h) at c.write_integer.ensures.answer) ∙ sym (integer_puts c.args.area.now (length c.args.part.now) n.n f (rw n.is at o)).is_starred);
-      bytes = λ f o. rw n.is ((rw (as_bits n.n h) at c.write_integer.ensures.laid) ∙ sym (integer_puts c.args.area.now (length c.args.part.now) n.n f (rw n.is at o)).are);
+      stars = λ f o. rw n.is ((rw (as_bits n.n h) at c.write_integer.ensures.answer) ∙ sym (integer_puts c.args.area.now c.args.settings (length c.args.part.now) n.n f (rw n.is at o)).is_starred);
+      bytes = λ f o. rw n.is ((rw (as_bits n.n h) at c.write_integer.ensures.laid) ∙ sym (integer_puts c.args.area.now c.args.settings (length c.args.part.now) n.n f (rw n.is at o)).are);
     }
 
 pub returns-in-Decimal : goal.returns-in-Decimal
@@ -58,25 +58,25 @@ returns-in-Decimal c =
     let w = length c.args.part.now in
     let h = within_decimal c.args.area.now x.d (rw x.is at c.requires.good) in
     let g = c.requires.field in
-    let small : too_large x.d.units x.d.places c.args.places ≡ false = sym (decimal_puts c.args.area.now w x.d g.f (rw x.is at g.is)).is_large ∙ (rw x.is at g.small) in
-    let r : Ok c.unwrap.result ≡ Ok (starred plain (Numeric.F c.args.places) w (rounded_units x.d.units x.d.places c.args.places)) =
-    sym c.unwrap.ensures ∙ (rw (as_bits x.d.units h.0) at c.write_decimal.ensures.answer) ∙ decimal_answer w c.args.places x.d.units x.d.places small in
-    let z : c.unwrap.result ≡ starred plain (Numeric.F c.args.places) w (rounded_units x.d.units x.d.places c.args.places) = cc in
+    let small : too_large x.d.units x.d.places c.args.places ≡ false = sym (decimal_puts c.args.area.now c.args.settings w x.d g.f (rw x.is at g.is)).is_large ∙ (rw x.is at g.small) in
+    let r : Ok c.unwrap.result ≡ Ok (starred c.args.settings.signs (Numeric.F c.args.places) w (rounded_units x.d.units x.d.places c.args.places)) =
+    sym c.unwrap.ensures ∙ (rw (as_bits x.d.units h.0) at c.write_decimal.ensures.answer) ∙ decimal_answer c.args.settings.signs w c.args.places x.d.units x.d.places small in
+    let z : c.unwrap.result ≡ starred c.args.settings.signs (Numeric.F c.args.places) w (rounded_units x.d.units x.d.places c.args.places) = cc in
     record {
-      stars = λ f o. rw x.is (z ∙ sym (decimal_puts c.args.area.now w x.d f (rw x.is at o)).is_starred);
+      stars = λ f o. rw x.is (z ∙ sym (decimal_puts c.args.area.now c.args.settings w x.d f (rw x.is at o)).is_starred);
       bytes = λ f o.
           rw x.is
           ((rw (as_bits x.d.units h.0) at c.write_decimal.ensures.laid)
-          ∙ decimal_bytes w c.args.places x.d.units x.d.places small c.args.part.now refl
-          ∙ sym (decimal_puts c.args.area.now w x.d f (rw x.is at o)).are);
+          ∙ decimal_bytes c.args.settings.signs w c.args.places x.d.units x.d.places small c.args.part.now refl
+          ∙ sym (decimal_puts c.args.area.now c.args.settings w x.d f (rw x.is at o)).are);
     }
 
 pub returns-in-Logical : goal.returns-in-Logical
 returns-in-Logical c =
     let b = c.in-Logical in
     record {
-      stars = λ f o. rw b.is (sym (logical_puts c.args.area.now (length c.args.part.now) b.b f (rw b.is at o)).is_starred);
-      bytes = λ f o. rw b.is (c.write_logical.ensures ∙ sym (logical_puts c.args.area.now (length c.args.part.now) b.b f (rw b.is at o)).are);
+      stars = λ f o. rw b.is (sym (logical_puts c.args.area.now c.args.settings (length c.args.part.now) b.b f (rw b.is at o)).is_starred);
+      bytes = λ f o. rw b.is (c.write_logical.ensures ∙ sym (logical_puts c.args.area.now c.args.settings (length c.args.part.now) b.b f (rw b.is at o)).are);
     }
 
 pub returns-in-Text : goal.returns-in-Text
@@ -84,6 +84,6 @@ unfolding text_bytes
 returns-in-Text c =
     let t = c.in-Text in
     record {
-      stars = λ f o. rw t.is (sym (text_puts c.args.area.now (length c.args.part.now) t.t f (rw t.is at o)).is_starred);
-      bytes = λ f o. rw t.is (c.write_text.ensures ∙ rw (take_rest c.args.area.now t.t.start) (sym (text_puts c.args.area.now (length c.args.part.now) t.t f (rw t.is at o)).are));
+      stars = λ f o. rw t.is (sym (text_puts c.args.area.now c.args.settings (length c.args.part.now) t.t f (rw t.is at o)).is_starred);
+      bytes = λ f o. rw t.is (c.write_text.ensures ∙ rw (take_rest c.args.area.now t.t.start) (sym (text_puts c.args.area.now c.args.settings (length c.args.part.now) t.t f (rw t.is at o)).are));
     }

@@ -1,4 +1,5 @@
 use Rattle.std.proofs.Common.{sym, ◌∙◌}
+use Rattle.settings.specs.Settings.{start_settings}
 use Rattle.list_elements.proofs.WithinLaws.{within_decimal}
 use Rattle.write_passes.proofs.PutLaws.{decimal_puts, other_large, few_places, as_bits}
 use Rattle.write_passes.proofs.fields.too_large.Goals as goal
@@ -16,4 +17,4 @@ pub returns : goal.returns
 returns c = λ f o.
     let x = c.in-Decimal in
     let h = within_decimal c.requires.good.0 x.d (rw x.is at c.requires.good.1) in
-    rw x.is ((rw (as_bits x.d.units h.0) at c.too_large.ensures) ∙ sym (decimal_puts c.requires.good.0 0 x.d f (rw x.is at o)).is_large)
+    rw x.is ((rw (as_bits x.d.units h.0) at c.too_large.ensures) ∙ sym (decimal_puts c.requires.good.0 start_settings 0 x.d f (rw x.is at o)).is_large)

@@ -1,9 +1,10 @@
-use Rattle.std.proofs.Common.{refl, ap, ◌∙◌, arith, rules}
+use Rattle.std.proofs.Common.{refl, sym, subst, ap, ◌∙◌, arith, rules}
 use Rattle.sheet_walk.proofs.Parts.{fewer_left}
+use Rattle.sheet_walk.specs.Columns.{In}
 use Rattle.sheet_walk.specs.Laid.{laid}
 use Rattle.write_passes.specs.Placed.{characters, starred_in, judged}
 use Rattle.write_passes.specs.Passes.{values_of}
-use Rattle.write_passes.proofs.LayLaws.{part, part_begins, few_so_far, goes_on_laying, all_laid}
+use Rattle.write_passes.proofs.LayLaws.{part, part_begins, part_plain, few_so_far, goes_on_laying, all_laid}
 use Rattle.write_passes.proofs.laying.lay_pass.Goals as goal
 
 pub loop-init : goal.loop-init
@@ -14,6 +15,7 @@ loop-init c =
       refl,
       record {
         goes_by = c.new-walk.ensures.goes_by;
+        within = λ p i. subst (In p) e i;
         n = c.requires.accepts.n;
         accepts = ap (judged (values_of s)) e ∙ c.requires.accepts.accepts;
         bytes = ap (λ t. laid s.records.width (characters s.list.area.now (values_of s)) t c.args.buffer.now) e;
@@ -24,7 +26,7 @@ loop-init c =
 pub lay-starred-requires : goal.lay-starred-requires
 lay-starred-requires c =
     let i = c.loop.invariant in
-    record { room = omega (arith, c.requires.room, i.0); begins = part_begins c.args.sheet i.2 c.place-placed.ensures c.taken-first.ensures }
+    record { room = omega (arith, c.requires.room, i.0); begins = part_begins c.args.sheet i.2 c.place-placed.ensures c.taken-first.ensures; plain = λ e. part_plain c.args.sheet i.2 c.place-placed.ensures c.taken-first.ensures (sym c.has_sp-sp.ensures ∙ e) }
 
 pub overflow_add-starred : goal.overflow_add-starred
 overflow_add-starred c =

@@ -47,7 +47,7 @@ returns-in_default-item c =
           let i = c.args.self.now.state.taken in
           let s = field_suited rs c.args.self.now.state c.args.self.now.elements.now t c.word-item.result f (ap (met_of t) c.word-item.ensures ∙ e) c.in-Some.element.now (some a) (is a) (sym c.field_width.ensures ∙ c.in-Some-field_width.is) in
           let k : CoversAs rs (cover_step rs c.args.self.now.state (element i f) c.in-Some-field_width.width (i + 1)) (Ok c.in_ok-at.at) c.cover.new.self.state = rw c.in_ok-at.was at (c.cover.ensures.covers (element i f)) in
-          rw s.1 (covered_as rs c.args.self.now.state (element i f) c.in-Some-field_width.width (i + 1) f c.cover.new.self.state (record { at = c.in_ok-at.at; word = c.args.word }) k refl
+          rw s.1 (covered_as rs c.args.self.now.state (element i f) c.in-Some-field_width.width (i + 1) f c.cover.new.self.state (record { at = c.in_ok-at.at; word = c.args.word; settings = c.args.self.now.state.settings }) k refl refl
           (rw s.0 (keeps_own t c.args.word f _ e (λ z. c.in_default-item.not-A (c.word-item.ensures ∙ z)))));
     }
 
@@ -66,5 +66,5 @@ returns-clause-answers c =
     let i = c.args.self.now.state.taken in
     let s = field_suited rs c.args.self.now.state c.args.self.now.elements.now t c.word-item.result f (ap (met_of t) c.word-item.ensures ∙ e) c.in-Some.element.now (some a) (is a) (sym c.field_width.ensures ∙ c.in-Some-field_width.is) in
     let k : CoversAs rs (cover_step rs c.args.self.now.state (element i f) c.in-Some-field_width.width (i + 1)) (Ok c.in_ok-at.at) c.cover.new.self.state = rw c.in_ok-at.was at (c.cover.ensures.covers (element i f)) in
-    rw s.1 (covered_as rs c.args.self.now.state (element i f) c.in-Some-field_width.width (i + 1) f c.cover.new.self.state (record { at = c.in_ok-at.at; word = c.of-word.result }) k refl
+    rw s.1 (covered_as rs c.args.self.now.state (element i f) c.in-Some-field_width.width (i + 1) f c.cover.new.self.state (record { at = c.in_ok-at.at; word = c.of-word.result; settings = c.args.self.now.state.settings }) k refl refl
     (keeps_text t c.args.word c.of-word.result f e (sym c.word-item.ensures ∙ c.in-A.is) c.of-word.ensures))

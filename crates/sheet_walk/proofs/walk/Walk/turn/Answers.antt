@@ -5,7 +5,7 @@ use Rattle.format_words.specs.declared.Word.TheVariants as word
 use Rattle.sheet_walk.specs.Steps.{literal}
 use Rattle.sheet_walk.specs.Followed.{sheet_of}
 use Rattle.sheet_walk.proofs.Keeping.{keeps_literal}
-use Rattle.sheet_walk.proofs.Following.{item_moves, item_refused, field_answers, literal_answers, literal_refused, X-step, T-step, slash_step, same_as, tab_from, field_word, literal_at, literal_inside, field_at}
+use Rattle.sheet_walk.proofs.Following.{item_moves, item_refused, field_answers, literal_answers, literal_refused, X-step, T-step, slash_step, set_moves, same_as, tab_from, field_word, literal_at, literal_inside, field_at}
 use Rattle.sheet_walk.proofs.walk.Walk.turn.Goals as goal
 
 pub returns-in_err-skip-in-X : goal.returns-in_err-skip-in-X
@@ -50,7 +50,7 @@ returns-in-Literal c =
     let cs = take c.in-Literal.len (drop c.in-Literal.start w.run.chars.now) in
     let k = keeps_literal w.run.chars.now _ is (literal_inside w _ c.if-self.false is) in
     literal_answers w (word.Literal c.in-Literal.start c.in-Literal.len) _ c.if-self.false is c.cover.new.self (same_as w c.cover.new.self s.run s.elements s.records) c.cover.ensures.index cs refl
-    (record { at = c.in_ok-at-in-Literal.at; word = _ }) refl k.0 k.1 (literal_at w _ c.if-self.false is c.from-in-Literal.ensures) c.in_ok-at-in-Literal.was (c.cover.ensures.covers (literal cs))
+    (record { at = c.in_ok-at-in-Literal.at; word = _; settings = w.state.settings }) refl refl k.0 k.1 (literal_at w _ c.if-self.false is c.from-in-Literal.ensures) c.in_ok-at-in-Literal.was (c.cover.ensures.covers (literal cs))
 
 pub returns-in_default : goal.returns-in_default
 returns-in_default c =
@@ -58,7 +58,7 @@ returns-in_default c =
     let s = c.field.ensures.same in
     let t = w.run.chars.now in
     let is = sym c.word.ensures in
-    let f = field_word t c.word.result c.in_default.not-X c.in_default.not-T c.in_default.not-Slash c.in_default.not-Literal in
+    let f = field_word t c.word.result c.in_default.not-X c.in_default.not-T c.in_default.not-Slash c.in_default.not-Literal c.in_default.not-Setting in
     field_answers w c.word.result _ c.if-self.false is c.field.new.self (same_as w c.field.new.self s.run s.elements s.records) c.field.ensures.index f.0 f.1
     c.field.result (field_at w _ f.1) (c.field.ensures.answers t f.0 (ap (met_of t) is ∙ f.1))
 
@@ -79,3 +79,9 @@ returns-in_ok-next_record-in-Slash c =
     let w = c.args.self.now in
     let s = c.next_record.ensures.same in
     item_moves w word.Slash _ c.if-self.false (sym c.word.ensures ∙ c.in-Slash.is) refl c.next_record.new.self (same_as w c.next_record.new.self s.run s.elements s.records) c.next_record.ensures.index (slash_step (sheet_of w).kinds (sheet_of w).records w.state) c.in_ok-next_record-in-Slash.was c.next_record.ensures.moves
+
+pub returns-in-Setting : goal.returns-in-Setting
+returns-in-Setting c =
+    let w = c.args.self.now in
+    let s = c.set.ensures.same in
+    item_moves w (word.Setting c.in-Setting.item) _ c.if-self.false (sym c.word.ensures ∙ c.in-Setting.is) refl c.set.new.self (same_as w c.set.new.self s.run s.elements s.records) c.set.ensures.index refl refl (set_moves (sheet_of w).kinds (sheet_of w).records w.state c.in-Setting.item c.set.ensures.moves)
