@@ -7,7 +7,7 @@
  * Threads. No global state and no heap: calls may be made from several threads at once on separate buffers, each with `records` of
  * its own. A format or a list text may be shared, as long as nothing writes to it.
  *
- * Stack. As measured, on 35 inputs, small and largest: no call takes more than 32 KB (32,768 bytes), trimsheet_write_slices up to 31,232
+ * Stack. As measured, on 36 inputs, small and largest: no call takes more than 32 KB (32,768 bytes), trimsheet_write_slices up to 31,232
  * bytes, trimsheet_check_slice up to 9,744; under a format of up to 64 bytes and 64 items met, repeats counted, up to 7,672 and 1,104. The
  * inline functions below add some 100 bytes. Where the C library is linked dynamically, the first call has its functions bound, which takes
  * some 3 KB more under such short formats.
@@ -15,7 +15,7 @@
  * Limits. A format has at most 1,024 bytes, groups to level 4, and at most 4,096 fields and other items, repeats counted (its size). A
  * record is 1 to 255 columns wide; there are as many as the buffer holds. A list has at most 64 elements; integers and the units of
  * decimals have a magnitude of at most 10^18 - 1, decimals 0 to 9 places, texts 1 to 64 bytes. What a format is, and which of several
- * refusals comes first, stands in docs/RULES.md ('The format', 'Checks by place').
+ * refusals comes first, stands in docs/RULES.md ('The format', 'Plus signs', 'Checks by place').
  *
  * List text. A line for each element, single blanks between its parts:
  *
@@ -34,8 +34,8 @@
 #include <stddef.h>
 #include <stdint.h>
 
-/* The version of this header: 1.0.0, as 10000 * 1 + 100 * 0 + 0. The archive has none in it: take both from one checkout. */
-#define TRIMSHEET_VERSION 10000
+/* The version of this header: 1.1.0, as 10000 * 1 + 100 * 1 + 0. The archive has none in it: take both from one checkout. */
+#define TRIMSHEET_VERSION 10100
 
 #ifdef __cplusplus
 extern "C" {

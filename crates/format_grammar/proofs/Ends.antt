@@ -11,6 +11,7 @@ use lib.Dec.{eqb}
 use Rattle.buffer.specs.Characters.{decimal_point}
 use Rattle.number.specs.Digits.{is_digit}
 use Rattle.format_grammar.specs.Characters.{opening_bracket, slash_sign, closing_bracket}
+use Rattle.settings.specs.declared.SettingItem.TheVariants.{S}
 use Rattle.format_items.specs.Items.{Number, number, Repeat, Field, Items, join}
 use Rattle.format_grammar.specs.Grammar.{Mark}
 use Rattle.format_grammar.specs.Reading.{Use, Mode, Open, State, Reading, step, step_within, used, written, close, unless_dead, is_empty, read_from}
@@ -108,6 +109,9 @@ state_ends (Reached.digits {v} {l} {at} {xs} {q} g u d) h = used_ends u l xs q v
 state_ends (Reached.inside {m} {l} {at} {cs} {xs} {q} g k) h =
     ends_by at _ m (State.within (Mode.mark m cs) l xs q) (step_mark m cs at l xs q) (λ a b. refl) (mark_ends m k.mark cs (at + 1) l xs q)
 state_ends (Reached.mark {m} {l} {b} {cs} {xs} {q} g k here) h = mark_ends m k.mark cs (b + 1) l xs q
+state_ends (Reached.letter {l} {a} {xs} {q} g here) h =
+    let ys : Items = join xs (Items.setting S Items.none) in
+    ends_by (a + 1) _ closing_bracket (close l ys q) refl (close_live l ys q) (closes q (a + 1 + 1) l ys)
 state_ends (Reached.after {l} {at} {xs} {q} bracket seq) h = after_ends at l xs q
 state_ends (Reached.end {xs} opens seq closed) h = record { text = []; items = xs; ends = refl }
 state_ends Reached.dead h = absurd (h refl)

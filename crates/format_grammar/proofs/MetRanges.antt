@@ -32,6 +32,7 @@ derived_within (Derives.X {n} m x) h = (first_within n [] h, tt)
 derived_within (Derives.T {n} t m) h = (first_within n [] h, tt)
 derived_within (Derives.slash {r} rep x) h = all_append (replicate (times r) Met.slash) [] (all_replicate (times r) Met.slash tt) tt
 derived_within (Derives.literal f) h = ((f.some, f.printable), tt)
+derived_within (Derives.setting k) h = (tt, tt)
 derived_within (Derives.one d) h = derived_within d h
 derived_within (Derives.more {xs} {x} d c e) h =
     let g : AllWithin (numbers xs ++ numbers x) = subst AllWithin (numbers_join xs x) h in
@@ -57,6 +58,7 @@ derived_some (Derives.slash {r} rep x) h =
     let g = times_some r (within_left (repeat_numbers r) [] h) in
     omega (arith, length-append (replicate (times r) Met.slash) [], length-replicate (times r) Met.slash)
 derived_some (Derives.literal f) h = omega arith
+derived_some (Derives.setting k) h = omega arith
 derived_some (Derives.one d) h = derived_some d h
 derived_some (Derives.more {xs} {x} d c e) h =
     let g : AllWithin (numbers xs ++ numbers x) = subst AllWithin (numbers_join xs x) h in

@@ -12,7 +12,7 @@ use lib.Dec.{ltb, eqb}
 use lib.ListN.{length, get_or}
 use Rattle.number.specs.Digits.{is_digit, Digits, value}
 use Rattle.number.proofs.DigitLaws.{value_none}
-use Rattle.format_grammar.specs.Characters.{quotation_mark, apostrophe}
+use Rattle.format_grammar.specs.Characters.{quotation_mark, apostrophe, letter_p, letter_s}
 use Rattle.format_items.specs.Items.{Number, number, value_of, Repeat, Items}
 use Rattle.format_grammar.specs.Grammar.{At, part, NumberAt, RepeatAt, Mark}
 use Rattle.format_grammar.specs.Reading.{Use, Mode, Open, State, Reading, step, step_within, unless_dead, wanted, written, begun, used, separated, read_at}
@@ -74,14 +74,23 @@ read_repeat (RepeatAt.absent {a}) l xs q c to here e f live =
     read_byte (State.within (wanted a) l xs q) to here (step_used Use.start a 0 a l xs q c (not_digit a a c e) ∙ rw (written_absent a a 0 refl) f) live
 read_repeat (RepeatAt.given h) l xs q c to here e f live = read_after h Use.start l xs q c to here e f live
 
--- after an item: the byte at b is no digit and no mark
+-- after an item: the byte at b is no digit, no mark, and no letter that goes on with an S
 pub record Follows (s : List ℕ) (b : ℕ) : Type 0 where
   pub within : b < length s
   pub no_digit : is_digit (get_or s b 0) ≡ false
   pub no_mark : (m : ℕ) → Mark m → eqb (get_or s b 0) m ≡ false
+  pub no_p : eqb (get_or s b 0) letter_p ≡ false
+  pub no_s : eqb (get_or s b 0) letter_s ≡ false
 
-pub follows : {s : List ℕ} {b c : ℕ} → At s b c → is_digit c ≡ false → eqb c apostrophe ≡ false → eqb c quotation_mark ≡ false → Follows s b
-follows h e f g = record { within = h.within; no_digit = rw h.is e; no_mark = λ m k. rw h.is (⊎_elim (λ z. rw z f) (λ z. rw z g) k) }
+pub follows : {s : List ℕ} {b c : ℕ} → At s b c → is_digit c ≡ false → eqb c apostrophe ≡ false → eqb c quotation_mark ≡ false → eqb c letter_p ≡ false → eqb c letter_s ≡ false → Follows s b
+follows h e f g i j =
+    record {
+      within = h.within;
+      no_digit = rw h.is e;
+      no_mark = λ m k. rw h.is (⊎_elim (λ z. rw z f) (λ z. rw z g) k);
+      no_p = rw h.is i;
+      no_s = rw h.is j;
+    }
 
 -- a number that ends an item
 pub read_ended : {s : List ℕ} {a b : ℕ} {n : Number} → NumberAt s a n b → Follows s b → (u : Use) (l : ℕ) (xs ys : Items) (q : Open)

@@ -9,12 +9,14 @@ use borrow.Author.Tests.{eqb-false}
 use lib.Dec.{eqb}
 use Rattle.buffer.specs.Characters.{decimal_point, letter_a, letter_f, letter_i, letter_l, letter_t}
 use Rattle.number.specs.Digits.{is_digit}
-use Rattle.format_grammar.specs.Characters.{quotation_mark, apostrophe, opening_bracket, closing_bracket, comma, slash_sign, letter_x}
+use Rattle.format_grammar.specs.Characters.{quotation_mark, apostrophe, opening_bracket, closing_bracket, comma, slash_sign, letter_x, letter_p, letter_s}
+use Rattle.settings.specs.declared.SettingItem.{SettingItem}
 use Rattle.format_items.specs.Items.{Number, Repeat, Field, Items}
-use Rattle.format_grammar.specs.Grammar.{At, NumberAt, RepeatAt, FieldAt, Nonterminal, Derives}
+use Rattle.format_grammar.specs.Grammar.{At, NumberAt, RepeatAt, FieldAt, SettingAt, Nonterminal, Derives}
 use Rattle.format_items.specs.Ranges.{Ranged, ranged, repeat_numbers, field_numbers, numbers}
 use Rattle.format_grammar.specs.Promises.{NoNumber, NoDigit, InOrder, NumbersInOrder}
 use Rattle.format_items.proofs.ItemLaws.{numbers_join}
+use Rattle.format_grammar.proofs.ReadLaws.{two}
 
 -- ---- one after the other
 
@@ -72,6 +74,11 @@ of_field (FieldAt.L at w) e = (stop at (plain letter_l refl refl refl), before (
 of_field (FieldAt.A at) e = (stop at (plain letter_a refl refl refl), InOrder.none (sign at (plain letter_a refl refl refl)))
 of_field (FieldAt.Aw at w) e = (stop at (plain letter_a refl refl refl), before (sign at (plain letter_a refl refl refl)) (one w e))
 
+of_setting : {s : List ℕ} {a b : ℕ} {k : SettingItem} → SettingAt s a k b → NoNumber s a b
+of_setting (SettingAt.SP {a} at p) = rw (two a) (no_more (sign at (plain letter_s refl refl refl)) (sign p (plain letter_p refl refl refl)))
+of_setting (SettingAt.SS {a} at t) = rw (two a) (no_more (sign at (plain letter_s refl refl refl)) (sign t (plain letter_s refl refl refl)))
+of_setting (SettingAt.S at) = sign at (plain letter_s refl refl refl)
+
 -- the items that follow a last item have none
 alone : {s : List ℕ} {a b : ℕ} {ns : List Ranged} → InOrder s a ns b → InOrder s a (ns ++ []) b
 alone {s} {a} {b} {ns} k = subst (λ (l : List Ranged). InOrder s a l b) (sym (append-nil ns)) k
@@ -87,6 +94,7 @@ of_derived (Derives.X n x) e = let k = plain letter_x refl refl refl in after (o
 of_derived (Derives.T t n) e = before (sign t (plain letter_t refl refl refl)) (one n e)
 of_derived (Derives.slash r x) e = let k = plain slash_sign refl refl refl in alone (after (of_repeat r (stop x k)) (sign x k))
 of_derived (Derives.literal f) e = InOrder.none (NoNumber.literal f NoNumber.none)
+of_derived (Derives.setting k) e = InOrder.none (of_setting k)
 of_derived (Derives.one d) e = of_derived d e
 of_derived {s} (Derives.more {a} {c} {xs} {x} d at f) e =
     let k = plain comma refl refl refl in

@@ -6,7 +6,7 @@ use Prim.Native.Nat.{ℕ, ◌+◌, ◌≤◌}
 use lib.ListN.{length}
 use Rattle.buffer.specs.Characters.{decimal_point, Printable, letter_a, letter_f, letter_i, letter_l, letter_t}
 use Rattle.number.specs.Digits.{Digits, value}
-use Rattle.format_grammar.specs.Characters.{opening_bracket, closing_bracket, comma}
+use Rattle.format_grammar.specs.Characters.{opening_bracket, closing_bracket, comma, letter_s}
 use Rattle.format_items.specs.Items.{Number, Repeat, Items}
 use Rattle.format_grammar.specs.Grammar.{At, part, NumberAt, RepeatAt, Mark, doubled, Nonterminal, Derives}
 use Rattle.format_grammar.specs.Reading.{Use, Mode, Open, State}
@@ -60,6 +60,7 @@ pub data Reached (s : List ℕ) : ℕ → State → Type 0 where
       → Reached s at (State.within (Mode.digits u o v) l xs q)
   inside : {m l a at : ℕ} {cs : List ℕ} {xs : Items} {q : Open} → Begun s l xs q a → InsideAt s a m cs at → Reached s at (State.within (Mode.inside m cs) l xs q)
   mark : {m l a b : ℕ} {cs : List ℕ} {xs : Items} {q : Open} → Begun s l xs q a → InsideAt s a m cs b → At s b m → Reached s (b + 1) (State.within (Mode.mark m cs) l xs q)
+  letter : {l a : ℕ} {xs : Items} {q : Open} → Begun s l xs q a → At s a letter_s → Reached s (a + 1) (State.within Mode.letter l xs q)
   after : {l a at : ℕ} {xs : Items} {q : Open} → Bracket s l a q → Derives s Nonterminal.items l a xs at → Reached s at (State.within Mode.after l xs q)
   end : {b : ℕ} {xs : Items} → At s 0 opening_bracket → Derives s Nonterminal.items 4 1 xs b → At s b closing_bracket → Reached s (b + 1) (State.end xs)
   dead : {at : ℕ} → Reached s at State.dead

@@ -19,6 +19,10 @@ use Rattle.format_grammar.specs.Reading.{Use, Mode, Open, State, Reading, step, 
 pub drop_one : (s : List ℕ) (at : ℕ) → at < length s → drop at s ≡ get_or s at 0 ∷ drop (at + 1) s
 drop_one s at h = rw (add-one, drop-cons s at 0)
 
+-- two bytes on
+pub two : (at : ℕ) → at + 2 ≡ at + 1 + 1
+two at = omega arith
+
 -- one byte
 pub read_one : (s : List ℕ) (at : ℕ) (st : State) → at < length s → read_at s at st ≡ unless_dead (step at st (get_or s at 0)) (Reading.wrong at) (read_at s (at + 1) (step at st (get_or s at 0)))
 unfolding read_at read_from

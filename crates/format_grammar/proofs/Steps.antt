@@ -11,10 +11,11 @@ use lib.ListN.{length, get_or}
 use Rattle.buffer.specs.Characters.{is_printable, decimal_point, letter_i, letter_f, letter_l, letter_a, letter_t}
 use Rattle.number.specs.Digits.{is_digit}
 use Rattle.number.proofs.DigitLaws.{value_none, digit_bounds}
-use Rattle.format_grammar.specs.Characters.{opening_bracket, slash_sign, apostrophe, quotation_mark, closing_bracket, comma, letter_x}
+use Rattle.format_grammar.specs.Characters.{opening_bracket, slash_sign, apostrophe, quotation_mark, closing_bracket, comma, letter_x, letter_p, letter_s}
 use Rattle.format_items.specs.Items.{number, Repeat, Items, join}
-use Rattle.format_grammar.specs.Grammar.{At, NumberAt, RepeatAt, FieldAt, Mark, doubled, Nonterminal, Derives}
-use Rattle.format_grammar.specs.Reading.{Use, Mode, Open, State, step, step_within, written, separated, only_absent, skipped, opened, begun, pointed, used, close, is_empty}
+use Rattle.format_grammar.specs.Grammar.{At, NumberAt, RepeatAt, FieldAt, SettingAt, Mark, doubled, Nonterminal, Derives}
+use Rattle.format_grammar.specs.Reading.{Use, Mode, Open, State, step, step_within, written, separated, only_absent, skipped, opened, begun, pointed, used, lettered, close, is_empty}
+use Rattle.format_grammar.proofs.ReadLaws.{two}
 use Rattle.format_grammar.proofs.PartLaws.{part_none, value_more, digits_more}
 use Rattle.format_grammar.proofs.Cases.{pick_cases, is_mark}
 use Rattle.format_grammar.proofs.LiteralSteps.{plain_at, doubled_at, literal_at}
@@ -109,6 +110,11 @@ reached_marked {s} {at} {m} g RepeatAt.absent mk here =
     Reached.inside g k
 reached_marked g (RepeatAt.given n) mk here = Reached.dead
 
+reached_letter : {s : List ℕ} {l a at : ℕ} {r : Repeat} {xs : Items} {q : Open} → Begun s l xs q a → RepeatAt s a r at → At s at letter_s
+    → Reached s (at + 1) (only_absent r (State.within Mode.letter l xs q))
+reached_letter g RepeatAt.absent here = Reached.letter g here
+reached_letter g (RepeatAt.given n) here = Reached.dead
+
 reached_begun : {s : List ℕ} {l a at : ℕ} {r : Repeat} {xs : Items} {q : Open} → at < length s → Begun s l xs q a → RepeatAt s a r at → Reached s (at + 1) (begun r at l xs q (get_or s at 0))
 reached_begun {s} {l} {a} {at} {r} {xs} {q} h g rep =
     let P : State → Type 0 = λ st. Reached s (at + 1) st in
@@ -121,8 +127,9 @@ reached_begun {s} {l} {a} {at} {r} {xs} {q} h g rep =
     (λ _. pick_cases P (eqb b letter_x) _ _ (λ e. reached_skipped g rep (found letter_x h e))
     (λ _. pick_cases P (eqb b letter_t) _ _ (λ e. reached_column g rep (found letter_t h e))
     (λ _. pick_cases P (eqb b slash_sign) _ _ (λ e. item_after g (Derives.slash rep (found slash_sign h e)))
+    (λ _. pick_cases P (eqb b letter_s) _ _ (λ e. reached_letter g rep (found letter_s h e))
     (λ _. pick_cases P (eqb b apostrophe || eqb b quotation_mark) _ _ (λ e. reached_marked g rep (is_mark b e) (record { within = h; is = refl }))
-    (λ _. Reached.dead)))))))))
+    (λ _. Reached.dead))))))))))
 
 -- ---- the byte after a number
 
@@ -147,6 +154,16 @@ reached_used h g (UsedAt.places rep k w p) (RepeatAt.given d) = item_separated h
 reached_used h g (UsedAt.column k) RepeatAt.absent = Reached.dead
 reached_used h g (UsedAt.column k) (RepeatAt.given n) = item_separated h g (Derives.T k n)
 
+-- ---- the byte after an S
+
+reached_lettered : {s : List ℕ} {l a : ℕ} {xs : Items} {q : Open} → a + 1 < length s → Begun s l xs q a → At s a letter_s → Reached s (a + 1 + 1) (lettered (a + 1) l xs q (get_or s (a + 1) 0))
+reached_lettered {s} {l} {a} h g here =
+    let P : State → Type 0 = λ st. Reached s (a + 1 + 1) st in
+    let b : ℕ = get_or s (a + 1) 0 in
+    pick_cases P (eqb b letter_p) _ _ (λ e. rw (two a) at (item_after g (Derives.setting (SettingAt.SP here (found letter_p h e)))))
+    (λ _. pick_cases P (eqb b letter_s) _ _ (λ e. rw (two a) at (item_after g (Derives.setting (SettingAt.SS here (found letter_s h e)))))
+    (λ _. item_separated h g (Derives.setting (SettingAt.S here))))
+
 -- ---- one byte
 
 pub reached_step : {s : List ℕ} {at : ℕ} {st : State} → at < length s → Reached s at st → Reached s (at + 1) (step at st (get_or s at 0))
@@ -168,6 +185,7 @@ reached_step {s} h (Reached.mark {m} {l} {a} {b} {cs} {xs} {q} g k here) =
     pick_cases (λ st. Reached s (b + 1 + 1) st) (eqb (get_or s (b + 1) 0) m) _ _
     (λ e. rw (eqb-true (get_or s (b + 1) 0) m e) (Reached.inside g (doubled_at k here (found m h e))))
     (λ _. pick_cases (λ st. Reached s (b + 1 + 1) st) (is_empty cs) _ _ (λ _. Reached.dead) (λ e. item_separated h g (Derives.literal (literal_at k here e))))
+reached_step h (Reached.letter g here) = reached_lettered h g here
 reached_step h (Reached.after bracket seq) = reached_separated h bracket seq
 reached_step h (Reached.end opens seq closes) = Reached.dead
 reached_step h Reached.dead = Reached.dead

@@ -30,3 +30,9 @@ slash_sign = 47
 -- the letters that only formats use
 abbrev pub letter_x : ℕ
 letter_x = 88
+
+abbrev pub letter_p : ℕ
+letter_p = 80
+
+abbrev pub letter_s : ℕ
+letter_s = 83

@@ -1,8 +1,9 @@
--- The rules, 'The format': the grammar, as a relation between a text s and what stands in it from an offset a up to an
--- offset b, the byte at b not included. Ranges, the size and the 1,024 bytes are no part of it. Laid beside the rules:
+-- The rules, 'The format' and 'Plus signs': the grammar, as a relation between a text s and what stands in it from an offset
+-- a up to an offset b, the byte at b not included. Ranges, the size and the 1,024 bytes are no part of it. Laid beside the rules:
 --   'Format: ( items ), one or more items, a comma between any two.'     Format, and Derives for items
 --   'Item: ..'                                                           Derives for item
 --   'Field: Iw, Fw.d, Lw, A or Aw.'                                      FieldAt
+--   'SP, SS and S .. are items without repeat'                           SettingAt
 --   'Literal: ..'                                                        LiteralAt
 --   'r, w, d, n are one to three digits.'                                NumberAt
 --   'Groups directly in the format have level 1; a group of level 4
@@ -12,7 +13,9 @@
 use Rattle.std.specs.Prelude.{◌≡◌, ◌⊎◌, cond, List, [], ◌∷◌, ◌++◌, ℕ, ◌+◌, ◌-◌, ◌<◌, ◌≤◌, eqb, length, get_or, take, drop}
 use Rattle.buffer.specs.Characters.{decimal_point, Printable, letter_a, letter_f, letter_i, letter_l, letter_t}
 use Rattle.number.specs.Digits.{Digits, value}
-use Rattle.format_grammar.specs.Characters.{quotation_mark, apostrophe, opening_bracket, closing_bracket, comma, slash_sign, letter_x}
+use Rattle.format_grammar.specs.Characters.{quotation_mark, apostrophe, opening_bracket, closing_bracket, comma, slash_sign, letter_x, letter_p, letter_s}
+use Rattle.settings.specs.declared.SettingItem.{SettingItem}
+use Rattle.settings.specs.declared.SettingItem.TheVariants as setting_item
 use Rattle.format_items.specs.Items.{Number, number, Repeat, Field, Items, join}
 
 -- the byte c stands at offset a
@@ -66,6 +69,12 @@ pub record LiteralAt (s : List ℕ) (a : ℕ) (cs : List ℕ) (c : ℕ) : Type 0
   pub printable : Printable cs
   pub some : 0 < length cs
 
+-- SP, SS and S. (In an item an S before P or S is not the item S, since a comma or a bracket must follow.)
+pub data SettingAt (s : List ℕ) : ℕ → SettingItem → ℕ → Type 0 where
+  SP : {a : ℕ} → At s a letter_s → At s (a + 1) letter_p → SettingAt s a setting_item.SP (a + 2)
+  SS : {a : ℕ} → At s a letter_s → At s (a + 1) letter_s → SettingAt s a setting_item.SS (a + 2)
+  S : {a : ℕ} → At s a letter_s → SettingAt s a setting_item.S (a + 1)
+
 -- 'a group of level 4 holds no group'
 abbrev pub levels : ℕ
 levels = 4
@@ -90,6 +99,8 @@ pub data Derives (s : List ℕ) : Nonterminal → ℕ → ℕ → Items → ℕ 
   slash : {l a b : ℕ} {r : Repeat} → RepeatAt s a r b → At s b slash_sign → Derives s item l a (Items.slash r Items.none) (b + 1)
   -- 'a literal'
   literal : {l a c : ℕ} {cs : List ℕ} → LiteralAt s a cs c → Derives s item l a (Items.literal cs Items.none) (c + 1)
+  -- 'SP, SS and S of FORTRAN 77 are items without repeat'
+  setting : {l a b : ℕ} {k : SettingItem} → SettingAt s a k b → Derives s item l a (Items.setting k Items.none) b
   -- 'one or more items, a comma between any two'
   one : {l a b : ℕ} {x : Items} → Derives s item l a x b → Derives s items l a x b
   more : {l a b c : ℕ} {xs x : Items} → Derives s items l a xs b → At s b comma → Derives s item l (b + 1) x c → Derives s items l a (join xs x) c

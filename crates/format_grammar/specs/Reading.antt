@@ -5,7 +5,8 @@
 use Rattle.std.specs.Prelude.{Bool, true, false, ◌&&◌, ◌||◌, cond, List, [], ◌∷◌, ◌++◌, ℕ, ◌+◌, ◌-◌, ◌*◌, ltb, eqb, drop}
 use Rattle.buffer.specs.Characters.{decimal_point, digit_zero, is_printable, letter_a, letter_f, letter_i, letter_l, letter_t}
 use Rattle.number.specs.Digits.{is_digit}
-use Rattle.format_grammar.specs.Characters.{quotation_mark, apostrophe, opening_bracket, closing_bracket, comma, slash_sign, letter_x}
+use Rattle.format_grammar.specs.Characters.{quotation_mark, apostrophe, opening_bracket, closing_bracket, comma, slash_sign, letter_x, letter_p, letter_s}
+use Rattle.settings.specs.declared.SettingItem.TheVariants.{SP, SS, S}
 use Rattle.format_grammar.specs.Grammar.{levels}
 use Rattle.format_items.specs.Items.{Number, number, Repeat, absent, given, I, F, L, A, Aw, Items, join}
 
@@ -27,6 +28,8 @@ pub data Mode : Type 0 where
   inside : (m : ℕ) → List ℕ → Mode
   -- after these and one more mark: the end of the literal, or the first half of a doubled mark
   mark : (m : ℕ) → List ℕ → Mode
+  -- after an S: it may be all of an item, or the first of two letters
+  letter : Mode
   -- after an item
   after : Mode
 
@@ -90,8 +93,9 @@ begun r at l xs q b =
     (pick (eqb b letter_x) (skipped r l xs q)
     (pick (eqb b letter_t) (only_absent r (within (digits column (at + 1) 0) l xs q))
     (pick (eqb b slash_sign) (within after l (join xs (Items.slash r Items.none)) q)
+    (pick (eqb b letter_s) (only_absent r (within letter l xs q))
     (pick (eqb b apostrophe || eqb b quotation_mark) (only_absent r (within (inside b []) l xs q))
-    dead))))))))
+    dead)))))))))
 
 -- after Fw and the point, for which w must stand
 abbrev pub pointed : Repeat → Repeat → ℕ → ℕ → Items → Open → State
@@ -138,6 +142,13 @@ used (width_a r) n at l xs q b = after_number (ended (width_a r) n) at l xs q b
 used (places r w) n at l xs q b = after_number (ended (places r w) n) at l xs q b
 used column n at l xs q b = after_number (ended column n) at l xs q b
 
+-- the byte b, at `at`, after an S
+abbrev pub lettered : ℕ → ℕ → Items → Open → ℕ → State
+lettered at l xs q b =
+    pick (eqb b letter_p) (within after l (join xs (Items.setting SP Items.none)) q)
+    (pick (eqb b letter_s) (within after l (join xs (Items.setting SS Items.none)) q)
+    (separated at l (join xs (Items.setting S Items.none)) q b))
+
 -- no characters
 abbrev pub is_empty : List ℕ → Bool
 is_empty [] = true
@@ -151,6 +162,7 @@ step_within (inside m cs) at l xs q b =
     pick (eqb b m) (within (mark m cs) l xs q) (pick (is_printable b) (within (inside m (cs ++ b ∷ [])) l xs q) dead)
 step_within (mark m cs) at l xs q b =
     pick (eqb b m) (within (inside m (cs ++ b ∷ [])) l xs q) (pick (is_empty cs) dead (separated at l (join xs (Items.literal cs Items.none)) q b))
+step_within letter at l xs q b = lettered at l xs q b
 step_within after at l xs q b = separated at l xs q b
 
 -- one more byte

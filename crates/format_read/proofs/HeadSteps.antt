@@ -9,7 +9,7 @@ use native.Mathlib.Omega.{arith}
 use borrow.Author.Tests.{eq-eqb, ne_eqb}
 use lib.Dec.{eqb}
 use lib.ListN.{length, get_or}
-use Rattle.std.specs.Prelude.{Option, Some, None, is_some, unwrap_or}
+use Rattle.std.specs.Prelude.{Option, is_some, unwrap_or}
 use Rattle.format_items.specs.Items.{Items}
 use Rattle.format_items.specs.Ranges.{repeat_numbers}
 use Rattle.format_grammar.specs.Reading.{Use, Open, State, Reading, wanted, read_at}
@@ -18,7 +18,7 @@ use Rattle.format_read.specs.Steps.{number_at, NumberFound, outside_after, Stuck
 use Rattle.format_read.specs.declared.Position.{Position}
 use Rattle.format_grammar.proofs.Cases.{is_mark}
 use Rattle.format_read.proofs.SingleSteps.{times_at, number_stuck_at, number_on_at}
-use Rattle.format_read.proofs.BegunSteps.{begun_stuck}
+use Rattle.format_read.proofs.BegunSteps.{after_digits}
 use Rattle.format_read.proofs.TakeSteps.{Moved}
 
 -- ---- an opening bracket
@@ -50,5 +50,4 @@ module _ {at l : ℕ} {v : Option ℕ} (p : Position) (f : NumberFound p.text.no
 
 -- digits before a mark
 pub mark_after_digits : {s : List ℕ} {from at : ℕ} {v : Option ℕ} → NumberFound s from v at → at < length s → is_some v ≡ true → (eqb (get_or s at 0) 39 || eqb (get_or s at 0) 34) ≡ true → Stuck s from (wanted from) at
-mark_after_digits {v = None} f h z e = absurd (cc)
-mark_after_digits {s} {at = at} {v = Some v} f h z e = ⊎_elim (λ m. begun_stuck f h (λ l xs q. rw m)) (λ m. begun_stuck f h (λ l xs q. rw m)) (is_mark (get_or s at 0) e)
+mark_after_digits {s} {at = at} f h z e = after_digits f h z (λ n l xs q. ⊎_elim (λ m. rw m refl) (λ m. rw m refl) (is_mark (get_or s at 0) e))

@@ -11,10 +11,13 @@ use lib.ListN.{length, get_or}
 use Rattle.std.specs.Prelude.{Option, Some, None, is_some, unwrap_or, Result, Err, IsErrAnd}
 use Rattle.std.specs.Option.{ok_or}
 use Rattle.std.proofs.lemmas.Result.{err_from_is_err_and}
+use Rattle.settings.specs.declared.SettingItem.{SettingItem}
+use Rattle.settings.specs.declared.SettingItem.TheVariants.{SP, SS, S}
 use Rattle.format_items.specs.Items.{Number, number, value_of, Repeat, times, Field, Items, join}
 use Rattle.format_items.specs.Ranges.{Ranged, range_w, range_d, ranged, repeat_numbers, field_numbers, numbers}
 use Rattle.format_items.specs.Met.{Met}
-use Rattle.format_grammar.specs.Reading.{Use, Mode, Open, State, Reading, pick, step, step_within, unless_dead, used, separated, read_at}
+use Rattle.format_grammar.specs.Characters.{letter_p, letter_s}
+use Rattle.format_grammar.specs.Reading.{Use, Mode, Open, State, Reading, pick, step, step_within, unless_dead, used, separated, lettered, read_at}
 use Rattle.format_grammar.proofs.ReadLaws.{read_step, read_end, read_same, read_stuck, step_used}
 use Rattle.format_words.specs.Words.{met_of, reach}
 use Rattle.format_words.specs.Packing.{detail_of}
@@ -166,6 +169,48 @@ ends-T =
       no_detail = λ v. refl;
       numbers_are = λ n. refl;
     }
+
+-- ---- S: another letter, or nothing
+
+module _ {s : List ℕ} {at : ℕ} (o : Option ℕ) where
+  -- such an item, up to `next`
+  setting_read : (k : SettingItem) {next : ℕ} → ((l : ℕ) (xs : Items) (q : Open) → read_at s at (State.within Mode.letter l xs q) ≡ read_at s next (State.within Mode.after l (join xs (Items.setting k Items.none)) q))
+      → at ≤ next → next ≤ length s → ItemRead s at Mode.letter [] at o (word.Setting k) 1 next o
+  unfolding numbers
+  setting_read k runs low high =
+      record {
+        item = Items.setting k Items.none;
+        late = [];
+        first = λ t. First.setting;
+        runs = runs;
+        no_characters = refl;
+        small = omega arith;
+        numbers_are = refl;
+        outside_is = sym (outside_none o);
+        more = low;
+        high = high;
+      }
+
+  -- one more letter
+  module _ (h : at < length s) where
+    setting_more : (k : SettingItem) → ((l : ℕ) (xs : Items) (q : Open) → lettered at l xs q (get_or s at 0) ≡ State.within Mode.after l (join xs (Items.setting k Items.none)) q)
+        → ItemRead s at Mode.letter [] at o (word.Setting k) 1 (at + 1) o
+    unfolding step step_within
+    setting_more k g = setting_read k (λ l xs q. read_step s at (State.within Mode.letter l xs q) _ h (g l xs q) (λ a b. refl)) (omega arith) (omega arith)
+
+    pub SP-read : get_or s at 0 ≡ letter_p → ItemRead s at Mode.letter [] at o (word.Setting SP) 1 (at + 1) o
+    SP-read e = setting_more SP (λ l xs q. rw e)
+
+    pub SS-read : get_or s at 0 ≡ letter_s → ItemRead s at Mode.letter [] at o (word.Setting SS) 1 (at + 1) o
+    SS-read e = setting_more SS (λ l xs q. rw e)
+
+  -- neither
+  pub S-alone : at ≤ length s → (at < length s → get_or s at 0 ≡ letter_p → ⊥) → (at < length s → get_or s at 0 ≡ letter_s → ⊥) → ItemRead s at Mode.letter [] at o (word.Setting S) 1 at o
+  unfolding step step_within
+  S-alone h p t =
+      setting_read S
+      (λ l xs q. read_same s at (State.within Mode.letter l xs q) (State.within Mode.after l (join xs (Items.setting S Items.none)) q) (λ z. simp (ne_eqb (get_or s at 0) letter_p (p z), ne_eqb (get_or s at 0) letter_s (t z))) refl)
+      (omega arith) h
 
 -- ---- A: a number or none
 

@@ -1,15 +1,17 @@
 // Items that are neither groups nor literals. (An offset after the position is a plain number, which has to lie in the text: a
 // struct of both would be made and taken apart at each call.)
-ghost use Rattle.std.specs.Prelude.{◌≡◌, [], ◌+◌, ◌<◌, ◌≤◌, length, get_or};
+ghost use Rattle.std.specs.Prelude.{◌≡◌, [], Option, ℕ, ◌+◌, ◌<◌, ◌≤◌, length, get_or};
 ghost use Rattle.format_items.specs.Items.{Repeat, times};
-ghost use Rattle.format_grammar.specs.Reading.{Use, wanted};
-ghost use Rattle.format_read.specs.Steps.{NumberFound, found, ended, item_read, NoBracketOrMark};
+ghost use Rattle.format_grammar.specs.Reading.{Use, Mode, wanted};
+ghost use Rattle.format_words.specs.declared.Word.TheVariants as word;
+ghost use Rattle.format_read.specs.Steps.{NumberFound, found, ended, ItemRead, item_read, NoBracketOrMark};
 
 use crate::digits::read_number;
 use crate::range::{look_at, look_at_repeat};
 use crate::{Found, Number, Single, Ungrammatical};
 use format_items::{LARGEST_COUNT, LARGEST_PLACES, LARGEST_WIDTH};
 use format_words::Word;
+use settings::SettingItem;
 
 impl Found {
     // The item whose only number it is.
@@ -20,6 +22,19 @@ impl Found {
             word,
             repeat,
             next: self.next,
+        }
+    }
+}
+
+impl Single {
+    // An item that sets how fields are written.
+    fn setting(item: SettingItem, next: usize) -> Single
+        ensures { result ≡ record { word = word.Setting item; repeat = 1; next = next } }
+    {
+        Single {
+            word: Word::Setting { item },
+            repeat: 1,
+            next,
         }
     }
 }
@@ -94,6 +109,18 @@ fn read_f(
     })
 }
 
+// What S goes on with: another letter, or nothing.
+fn read_setting(text: &[u8], at: usize) -> Single
+    requires { at ≤ length text.now }
+    ensures { (o : Option ℕ) → ItemRead text.now at Mode.letter [] at o result.word result.repeat result.next o }
+{
+    match text.get(at) {
+        Some(b'P') => Single::setting(SettingItem::SP, at + 1),
+        Some(b'S') => Single::setting(SettingItem::SS, at + 1),
+        _ => Single::setting(SettingItem::S, at),
+    }
+}
+
 // The item, neither a group nor a literal, that begins at `from` with the digits m.
 pub fn read_single(
     text: &[u8],
@@ -139,6 +166,10 @@ pub fn read_single(
                 next: at + 1,
             })
         }
+        b'S' => match m.value {
+            None => Ok(read_setting(text, at + 1)),
+            Some(_) => Err(Ungrammatical { place: at }),
+        },
         b'/' => Ok(Single {
             word: Word::Slash,
             repeat,
