@@ -40,6 +40,7 @@ pub fn all() -> Vec<Case> {
         small(),
         full(),
         integers(),
+        plus(),
         texts(),
         mixed(),
         nests(),
@@ -68,11 +69,20 @@ fn full() -> Case {
 
 /// Integers of 1 to 9 digits by turns, of either sign.
 fn integers() -> Case {
+    sheet("integers", "INTS", 80, "(8I10)", of_either_sign())
+}
+
+/// The same, those of zero or more with a plus.
+fn plus() -> Case {
+    sheet("plus", "INTS", 80, "(SP,8I10)", of_either_sign())
+}
+
+fn of_either_sign() -> Elements {
     let mut list = Elements::new();
     for index in 0..64 {
         list.integer(of_digits(1 + index as u32 % 9, index));
     }
-    sheet("integers", "INTS", 80, "(8I10)", list)
+    list
 }
 
 /// An integer of so many digits, negative at every second index. Nine digits are within INTEGER*4, and with a sign fill 10 columns.

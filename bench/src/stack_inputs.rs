@@ -104,6 +104,7 @@ fn groups() -> Sheet {
 fn largest() -> Vec<Input> {
     vec![
         all_kinds().input("4,096 items by repeats: 64 elements of all kinds, as large as may be", 0),
+        after_sp().input("4,096 items by repeats: the same with a plus", 0),
         returns().input("4,096 items by repeats, met for each of 64 elements", 0),
         records().input("4,096 items by repeats, 4,033 records", 0),
         long_and_large().input("4,096 items by repeats, 1,024 bytes", 0),
@@ -115,6 +116,12 @@ fn all_kinds() -> Sheet {
     let most = "9".repeat(18);
     let lines = format!("I -{most}\nD -{most} 9\nL T\nA {}\n", "X".repeat(64));
     Sheet { width: 255, records: 1, format, text: lines.repeat(16) }
+}
+
+fn after_sp() -> Sheet {
+    let format = "(SP,15(I64,F64.9,L64,A63,4(3(21(T1)))),I64,F64.9,L64,A63,4(3(20(T1))),11(T1))".to_string();
+    let all_kinds = all_kinds();
+    Sheet { format, text: all_kinds.text.replace('-', ""), ..all_kinds }
 }
 
 fn returns() -> Sheet {

@@ -1,4 +1,4 @@
-/* The C calls through the header: each refusal that they can give, by its name; null pointers with length 0. */
+/* The C calls through the header: each refusal that they can give, by its name; SP, SS and S; null pointers with length 0. */
 #include <stdio.h>
 #include <string.h>
 
@@ -55,6 +55,25 @@ static void each_refusal(void)
     expect("an accepted format", trimsheet_check(bytes("(I4)"), 4), 0);
 }
 
+/* SP, SS and S in the format of both calls. */
+static void sign_settings(void)
+{
+    static const char format[] = "(SP,I4,SS,I4,SP,I2,S,I4)";
+    static const char list_text[] = "I 7\nI 7\nI 10\nI 0\n";
+    static const char line[] = "  +7   7**   0      ";
+    uint8_t records[20];
+    int64_t answer =
+        trimsheet_write(20, bytes(format), strlen(format), bytes(list_text), strlen(list_text), records, sizeof records);
+    expect("SP, SS, SP and S", answer, 1);
+    expect("its record", memcmp(records, line, sizeof records), 0);
+    expect("no comma after SP", written(20, "(SPI4)", "I 7\n"), -TRIMSHEET_FORMAT_GRAMMAR);
+    expect("nothing but SP to return to", written(20, "(I4,(SP))", "I 7\nI 7\n"), -TRIMSHEET_NO_FIELD);
+    expect("SP, checked", trimsheet_check(bytes("(SP,I4)"), 7), 0);
+    expect("S alone, checked", trimsheet_check(bytes("(S)"), 3), 0);
+    expect("SP with a repeat, checked", trimsheet_check(bytes("(3SP)"), 5), -TRIMSHEET_FORMAT_GRAMMAR);
+    expect("4,097 settings, checked", trimsheet_check(bytes("(16(255(SP)),17(SP))"), 20), -TRIMSHEET_FORMAT_SIZE);
+}
+
 /* A pointer of no byte: null, and one that points nowhere. */
 static void no_bytes(uint8_t *nowhere)
 {
@@ -71,9 +90,10 @@ static void no_bytes(uint8_t *nowhere)
 int main(void)
 {
     each_refusal();
+    sign_settings();
     no_bytes(NULL);
     no_bytes((uint8_t *)1);
     if (!failed)
-        puts("each refusal has its name, and a pointer of no byte may be null");
+        puts("each refusal has its name, SP, SS and S are known, and a pointer of no byte may be null");
     return failed;
 }

@@ -3,7 +3,7 @@
 use crate::damage::damaged;
 use random::Random;
 
-const ALPHABET: &[u8] = b"(((()))),,,,IIFFLLAAXXTT//''\"\"0123456789.  +-ift\x1f\x7f\x00\xff\n";
+const ALPHABET: &[u8] = b"(((()))),,,,IIFFLLAAXXTTSSSPP//''\"\"0123456789.  +-iftsp\x1f\x7f\x00\xff\n";
 
 /// A format: mostly good, else with numbers past their ranges, over a limit or damaged.
 pub fn format(random: &mut Random) -> Vec<u8> {
@@ -11,16 +11,17 @@ pub fn format(random: &mut Random) -> Vec<u8> {
         0..=2 => sized(random),
         3..=6 => long(random),
         7..=13 => deep(random),
-        14..=16 => fieldless_part(random),
-        17..=22 => wild(random),
-        23..=30 => overlapping(random),
-        31..=35 => crowded(random),
+        14..=17 => fieldless_part(random),
+        18..=23 => wild(random),
+        24..=31 => overlapping(random),
+        32..=36 => crowded(random),
+        37..=46 => signed(random),
         _ => plain(random),
     };
-    if random.chance(7) {
-        damaged(random, text, ALPHABET)
-    } else {
-        text
+    match random.below(100) {
+        0..=6 => damaged(random, text, ALPHABET),
+        7..=8 => damaged_setting(random, text),
+        _ => text,
     }
 }
 
@@ -58,11 +59,12 @@ impl<'a> Maker<'a> {
 
     fn item(&mut self, level: usize) {
         match self.random.below(100) {
-            0..=55 if self.fields => self.field(),
-            0..=63 => self.skip(),
-            64..=70 => self.tab(),
-            71..=78 => self.slash(),
-            79..=86 => self.literal(),
+            0..=53 if self.fields => self.field(),
+            0..=60 => self.skip(),
+            61..=66 => self.tab(),
+            67..=73 => self.setting(),
+            74..=80 => self.slash(),
+            81..=86 => self.literal(),
             _ if level < 4 || (self.wild && self.random.chance(20)) => self.group(level),
             _ if self.fields => self.field(),
             _ => self.tab(),
@@ -104,6 +106,44 @@ impl<'a> Maker<'a> {
         self.number(w, &[0, 1, 63, 64, 65, 999]);
         self.put(".");
         self.number(d, &[0, 8, 9, 10, 255, 999]);
+    }
+
+    fn setting(&mut self) {
+        let setting = self.random.pick(&["SP", "SP", "SP", "SP", "SS", "S"]);
+        self.put(setting);
+    }
+
+    /// A group of settings with a repeat, seldom a large one.
+    fn settings(&mut self) {
+        let r = if self.random.chance(5) { self.random.within(100..=255) } else { self.random.within(1..=3) };
+        self.put(format!("{r}("));
+        self.setting();
+        for _ in 0..self.random.below(3) {
+            self.put(",");
+            self.setting();
+        }
+        self.put(")");
+    }
+
+    /// Numeric fields, with settings and slashes before them.
+    fn signed_items(&mut self, most: usize) {
+        for item in 0..self.random.within(1..=most) {
+            if item > 0 {
+                self.put(",");
+            }
+            match self.random.below(100) {
+                0..=44 => self.setting(),
+                45..=54 => self.settings(),
+                55..=69 => self.slash(),
+                _ => self.sized_field("I", 6),
+            }
+            self.put(",");
+            match self.random.below(10) {
+                0..=3 => self.sized_field("I", 6),
+                4..=8 => self.decimal(),
+                _ => self.field(),
+            }
+        }
     }
 
     fn skip(&mut self) {
@@ -160,6 +200,9 @@ impl<'a> Maker<'a> {
 
 fn plain(random: &mut Random) -> Vec<u8> {
     let mut maker = Maker::new(random);
+    if maker.random.chance(15) {
+        maker.put("SP,");
+    }
     maker.items(0, 5);
     maker.close()
 }
@@ -174,6 +217,9 @@ fn wild(random: &mut Random) -> Vec<u8> {
 /// Fields and literals with moves back between them, so that columns are covered twice.
 fn overlapping(random: &mut Random) -> Vec<u8> {
     let mut maker = Maker::new(random);
+    if maker.random.chance(25) {
+        maker.put("SP,");
+    }
     maker.field();
     for _ in 0..maker.random.within(1..=3) {
         let column = maker.random.within(1..=12);
@@ -205,18 +251,62 @@ fn crowded(random: &mut Random) -> Vec<u8> {
     maker.close()
 }
 
+/// Numeric fields under settings that change, with a part to return to or without, or settings behind them.
+fn signed(random: &mut Random) -> Vec<u8> {
+    let mut maker = Maker::new(random);
+    maker.signed_items(3);
+    if maker.random.chance(50) {
+        maker.put(",");
+        maker.repeat();
+        maker.put("(");
+        maker.signed_items(3);
+        maker.put(")");
+    }
+    for _ in 0..maker.random.below(3) {
+        maker.put(",");
+        maker.setting();
+    }
+    if maker.random.chance(20) {
+        maker.put(",");
+        maker.item(4);
+    }
+    maker.close()
+}
+
 /// Any bytes of the alphabet, mostly after a bracket.
 pub fn noise(random: &mut Random) -> Vec<u8> {
-    let mut text = random.pick(&["(", "(", "((((", "('", "(I4,", "(3", ""]).as_bytes().to_vec();
+    let mut text = random.pick(&["(", "(", "((((", "('", "(I4,", "(3", "(S", "(SP", "(3S", ""]).as_bytes().to_vec();
     for _ in 0..random.below(9) {
         text.push(random.pick(ALPHABET));
     }
     text
 }
 
-/// The format with a few bytes changed.
+/// The format with a few bytes changed, or those at one of its settings.
 pub fn damaged_format(random: &mut Random, format: &[u8]) -> Vec<u8> {
-    damaged(random, format.to_vec(), ALPHABET)
+    if random.chance(30) {
+        damaged_setting(random, format.to_vec())
+    } else {
+        damaged(random, format.to_vec(), ALPHABET)
+    }
+}
+
+/// The format with a digit before one of its settings, another byte after it or one fewer there, or in small letters.
+fn damaged_setting(random: &mut Random, mut text: Vec<u8>) -> Vec<u8> {
+    let settings: Vec<usize> = (0..text.len()).filter(|&at| text[at] == b'S').collect();
+    if settings.is_empty() {
+        return damaged(random, text, ALPHABET);
+    }
+    let at = random.pick(&settings);
+    let end = at + 1 + usize::from(matches!(text.get(at + 1), Some(b'P' | b'S')));
+    match random.below(8) {
+        0..=1 => text.insert(at, random.pick(b"0123456789")),
+        2..=4 => text.insert(end, random.pick(b"PSXIFLATPSXspx")),
+        5 => text.insert(end, random.pick(b"0123456789 /.'(")),
+        6 if end < text.len() => drop(text.remove(end)),
+        _ => text[at..end].make_ascii_lowercase(),
+    }
+    text
 }
 
 /// Groups in groups to level 4, seldom 5, with items before, after or between.
@@ -242,12 +332,16 @@ fn deep(random: &mut Random) -> Vec<u8> {
     maker.close()
 }
 
-/// A format whose last part, or all of it, has no field.
+/// A format whose last part, or all of it, has no field, often nothing but settings.
 fn fieldless_part(random: &mut Random) -> Vec<u8> {
     let mut maker = Maker::new(random);
     if maker.random.chance(70) {
         maker.items(0, 2);
         maker.put(",");
+    }
+    if maker.random.chance(40) {
+        maker.settings();
+        return maker.close();
     }
     maker.fields = false;
     if maker.random.chance(70) {
@@ -266,7 +360,7 @@ fn sized(random: &mut Random) -> Vec<u8> {
     while left > 0 {
         let inner = maker.random.within(1..=left.min(255));
         let times = maker.random.within(1..=(left / inner).min(255));
-        let item = maker.random.pick(&["I1", "L1", "/", "(T1)", "('*')", "((T1))", "F3.1"]);
+        let item = maker.random.pick(&["I1", "L1", "/", "(T1)", "('*')", "((T1))", "F3.1", "(SP)", "(S)", "((SS))"]);
         maker.put(format!("{times}({inner}{item}),"));
         left -= inner * times;
     }
@@ -281,8 +375,18 @@ fn long(random: &mut Random) -> Vec<u8> {
     let mut maker = Maker::new(random);
     maker.items(0, 3);
     while maker.text.len() + 60 < length {
-        let chunk =
-            maker.random.pick(&[",T1", ",/", ",2X,T1", ",I3", ",A,T1", ",(T2)", ",T1,'so ''much'' of it'", ",2/"]);
+        let chunk = maker.random.pick(&[
+            ",T1",
+            ",/",
+            ",2X,T1",
+            ",I3",
+            ",A,T1",
+            ",(T2)",
+            ",T1,'so ''much'' of it'",
+            ",2/",
+            ",SP",
+            ",S,SS,(SP)",
+        ]);
         maker.put(chunk);
     }
     maker.put(",T1,'");

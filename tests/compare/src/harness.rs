@@ -82,9 +82,11 @@ impl<'a, C: Calls> Harness<'a, C> {
             let traced = readback::traced(case);
             let traced = traced.map_err(|refusal| told(format!("accepted, where the walk meets {refusal:?}")))?;
             self.tally.count_items(traced.placements.len(), case.count as usize);
+            self.tally.signs.count_writing(case, &traced, &buffer);
             let outcome = readback::check(&mut self.random, self.calls, case, actual, &buffer, &traced);
             self.tally.count_outcome(outcome.map_err(told)?);
         }
+        self.tally.signs.count_no_field(&case.format, actual.number);
         Ok(())
     }
 
@@ -94,12 +96,16 @@ impl<'a, C: Calls> Harness<'a, C> {
         let (actual, list) = self.calls.read(case, &mut area);
         self.tally.count(Call::Read, expected.number);
         same("read", case, (expected, Shown(&expected_list), Bytes(&right)), (actual, Shown(&list), Bytes(&area)))?;
+        if actual.number == 0 {
+            self.tally.signs.count_reading(case);
+        }
         unchanged("read", case, actual, &case.area, &area)
     }
 
     fn check(&mut self, format: &[u8]) -> Result<(), Difference> {
         let expected = Reference.check(format);
         self.tally.count(Call::Check, expected.number);
+        self.tally.signs.count_format(format, expected);
         same("check", &Bytes(format), expected, self.calls.check(format))
     }
 

@@ -131,6 +131,9 @@ fn decimal(random: &mut Random, w: usize, d: usize, narrow: bool) -> Value {
     if random.chance(3) {
         return near_largest(random, d);
     }
+    if d < 9 && random.chance(8) {
+        return near_zero(random, d);
+    }
     let any = random.within(0..=9);
     let places = random.pick(&[d, (d + 1).min(9), (d + 2).min(9), any]);
     let shown = match random.below(10) {
@@ -159,6 +162,12 @@ fn with_tail(random: &mut Random, kept: i64, dropped: usize) -> i64 {
     } else {
         magnitude
     }
+}
+
+/// A decimal that is rounded to zero, or just not, mostly from below.
+fn near_zero(random: &mut Random, d: usize) -> Value {
+    let units = random.pick(&[-1, -2, -4, -4, -5, -6, 0, 4]);
+    Value::Decimal { units, places: d as u64 + 1 }
 }
 
 /// A decimal whose rounded units are the largest, just more, or much more.

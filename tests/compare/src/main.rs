@@ -11,6 +11,8 @@ mod formats;
 mod harness;
 mod lists;
 mod readback;
+mod sign_slips;
+mod signs;
 mod slips;
 mod tally;
 
@@ -71,7 +73,7 @@ fn compare_with(calls: &impl Calls, cases: usize, seed: u64) -> bool {
 /// The reference passes against itself, and every wrong variant is noticed.
 fn run_self_test(seed: u64) -> bool {
     let mut passed = compare_with(&Reference, SELF_TEST_CASES, seed);
-    for slip in slips::SLIPS {
+    for slip in slips::SLIPS.iter().chain(sign_slips::SLIPS) {
         let noticed = Harness::new(slip, seed).run(SELF_TEST_CASES).is_err();
         println!("{}: {}", slip.name, if noticed { "noticed" } else { "NOT NOTICED" });
         passed &= noticed;

@@ -6,6 +6,7 @@ use crate::cases::{kinds, texts_length, Reading, Writing};
 use random::Random;
 use reference::format::Field;
 use reference::trace::{trace, Content, Placement, Shown, Trace};
+use reference::walk::Settings;
 use reference::{Counts, Refusal, Value};
 
 /// How an accepted writing was looked at.
@@ -54,21 +55,22 @@ fn check_stars(traced: &Trace, answer: Answer) -> Result<(), String> {
 /// Whether the placement is a numeric field whose rounded value has no numeral.
 fn must_star(placement: &Placement) -> bool {
     match &placement.content {
-        Content::Field { field, shown: Shown::Value(value), .. } => !has_numeral(*field, *value),
+        Content::Field { field, settings, shown: Shown::Value(value), .. } => !has_numeral(*field, *settings, *value),
         _ => false,
     }
 }
 
-/// Whether some numeral of the field's width stands for the value: a column
-/// goes to a minus and one to the point; the rest are digits, at least d of
-/// them and at least one, and reach every magnitude below their power of ten.
-fn has_numeral(field: Field, value: Value) -> bool {
+/// Whether some numeral of the field's width that the settings permit stands
+/// for the value: a column goes to a minus, one to a plus after SP and one to
+/// the point; the rest are digits, at least d of them and at least one, and
+/// reach every magnitude below their power of ten.
+fn has_numeral(field: Field, settings: Settings, value: Value) -> bool {
     let (w, d, point, number) = match (field, value) {
         (Field::Integer { w }, Value::Integer(n)) => (w, 0, 0, n),
         (Field::Decimal { w, d }, Value::Decimal { units, .. }) => (w, d, 1, units),
         _ => return true,
     };
-    let digits = w as i64 - point - i64::from(number < 0);
+    let digits = w as i64 - point - i64::from(number < 0 || settings.plus);
     let power = 10_u64.pow(digits.clamp(0, 18) as u32);
     digits >= 1 && digits >= d as i64 && number.unsigned_abs() < power
 }
@@ -91,7 +93,7 @@ fn check_rounding(placement: &Placement) -> Result<(), String> {
     Err(format!("{units}/{places} rounded to {rounded}/{d}"))
 }
 
-/// Numeric fields hold asterisks exactly where they must.
+/// Numeric fields hold asterisks exactly where they must, and the sign that their value asks for.
 fn check_asterisks(traced: &Trace, width: usize, buffer: &[u8]) -> Result<(), String> {
     for placement in &traced.placements {
         let numeric =
@@ -101,8 +103,18 @@ fn check_asterisks(traced: &Trace, width: usize, buffer: &[u8]) -> Result<(), St
         if numeric && asterisks != must_star(placement) {
             return Err(format!("{:?} for {placement:?}", bytes.escape_ascii().to_string()));
         }
+        if numeric && !asterisks && !has_its_sign(placement, bytes) {
+            return Err(format!("{:?} with a wrong sign for {placement:?}", bytes.escape_ascii().to_string()));
+        }
     }
     Ok(())
+}
+
+/// Whether the numeral has "− exactly for a value below zero after rounding", + exactly for another after SP.
+fn has_its_sign(placement: &Placement, bytes: &[u8]) -> bool {
+    let Content::Field { settings, shown: Shown::Value(shown), .. } = &placement.content else { return true };
+    let below = matches!(shown, Value::Integer(n) | Value::Decimal { units: n, .. } if *n < 0);
+    bytes.contains(&b'-') == below && bytes.contains(&b'+') == (settings.plus && !below)
 }
 
 /// Reads the records back, "whatever bytes follow them".
@@ -175,8 +187,9 @@ mod tests {
     use std::collections::BTreeSet;
 
     /// The value that the characters stand for under the rules' words on
-    /// numerals, or nothing: blanks, a sign or none, digits and a point.
-    fn stands_for(characters: &[u8], d: Option<usize>) -> Option<i64> {
+    /// numerals, or nothing: blanks, a sign or none, digits and a point. After
+    /// SP one for a value of zero or more has to carry a plus.
+    fn stands_for(characters: &[u8], d: Option<usize>, plus: bool) -> Option<i64> {
         let text = std::str::from_utf8(characters).unwrap().trim_start_matches(' ');
         let unsigned = text.strip_prefix(['+', '-']).unwrap_or(text);
         let digits = match d {
@@ -193,10 +206,12 @@ mod tests {
             return None;
         }
         let number: i64 = digits.parse().unwrap();
-        Some(if text.starts_with('-') { -number } else { number })
+        let number = if text.starts_with('-') { -number } else { number };
+        let permitted = !plus || number < 0 || text.starts_with('+');
+        permitted.then_some(number)
     }
 
-    fn all_values(w: usize, d: Option<usize>) -> BTreeSet<i64> {
+    fn all_values(w: usize, d: Option<usize>, plus: bool) -> BTreeSet<i64> {
         const CHARACTERS: &[u8] = b" +-.0123456789";
         let texts = CHARACTERS.len().pow(w as u32);
         let text = |mut number: usize| -> Vec<u8> {
@@ -208,24 +223,33 @@ mod tests {
                 })
                 .collect()
         };
-        (0..texts).filter_map(|number| stands_for(&text(number), d)).collect()
+        (0..texts).filter_map(|number| stands_for(&text(number), d, plus)).collect()
     }
 
     #[test]
     fn numerals_by_enumeration() {
-        for w in 1..=4 {
-            let integers = all_values(w, None);
-            for n in -11_000..11_000 {
-                let field = Field::Integer { w: w as u64 };
-                assert_eq!(has_numeral(field, Value::Integer(n)), integers.contains(&n), "I{w} {n}");
+        for plus in [false, true] {
+            for w in 1..=4 {
+                enumerated(w, Settings { plus });
             }
-            for d in 0..=4 {
-                let decimals = all_values(w, Some(d));
-                for units in -11_000..11_000 {
-                    let field = Field::Decimal { w: w as u64, d: d as u64 };
-                    let value = Value::Decimal { units, places: d as u64 };
-                    assert_eq!(has_numeral(field, value), decimals.contains(&units), "F{w}.{d} {units}");
-                }
+        }
+    }
+
+    fn enumerated(w: usize, settings: Settings) {
+        let told = |field: &str, n: i64| format!("{field} {n} {settings:?}");
+        let integers = all_values(w, None, settings.plus);
+        for n in -11_000..11_000 {
+            let field = Field::Integer { w: w as u64 };
+            let found = has_numeral(field, settings, Value::Integer(n));
+            assert_eq!(found, integers.contains(&n), "{}", told(&format!("I{w}"), n));
+        }
+        for d in 0..=4 {
+            let decimals = all_values(w, Some(d), settings.plus);
+            for units in -11_000..11_000 {
+                let field = Field::Decimal { w: w as u64, d: d as u64 };
+                let value = Value::Decimal { units, places: d as u64 };
+                let found = has_numeral(field, settings, value);
+                assert_eq!(found, decimals.contains(&units), "{}", told(&format!("F{w}.{d}"), units));
             }
         }
     }

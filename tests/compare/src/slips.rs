@@ -12,13 +12,13 @@ use reference::Value;
 /// The calls, of which those with the slip are replaced.
 pub struct Slip {
     pub name: &'static str,
-    write: fn(&Writing, &mut [u8]) -> Answer,
-    read: fn(&Reading, &mut [u8]) -> (Answer, List),
-    check: fn(&[u8]) -> Answer,
-    list_text: fn(&[u8]) -> (Answer, List),
-    sheet: fn(&[u8], &mut [u8; SHEET_OUTPUT]) -> u64,
-    host_write: fn(u64, &[u8], &[u8], &mut [u8]) -> i64,
-    host_check: fn(&[u8]) -> i64,
+    pub write: fn(&Writing, &mut [u8]) -> Answer,
+    pub read: fn(&Reading, &mut [u8]) -> (Answer, List),
+    pub check: fn(&[u8]) -> Answer,
+    pub list_text: fn(&[u8]) -> (Answer, List),
+    pub sheet: fn(&[u8], &mut [u8; SHEET_OUTPUT]) -> u64,
+    pub host_write: fn(u64, &[u8], &[u8], &mut [u8]) -> i64,
+    pub host_check: fn(&[u8]) -> i64,
 }
 
 impl Calls for Slip {
@@ -46,7 +46,7 @@ impl Calls for Slip {
 }
 
 /// No slip at all.
-const RIGHT: Slip = Slip {
+pub const RIGHT: Slip = Slip {
     name: "right",
     write: |case, buffer| Reference.write(case, buffer),
     read: |case, area| Reference.read(case, area),
@@ -109,7 +109,7 @@ fn with_values(case: &Writing, buffer: &mut [u8], other: impl Fn(&Content) -> Op
 }
 
 /// Writes, then changes the bytes of some placements.
-fn patched(case: &Writing, buffer: &mut [u8], patch: impl Fn(&Placement, &mut [u8]) -> bool) -> Answer {
+pub fn patched(case: &Writing, buffer: &mut [u8], patch: impl Fn(&Placement, &mut [u8]) -> bool) -> Answer {
     let mut answer = Reference.write(case, buffer);
     for placement in traced(case).map_or(Vec::new(), |traced| traced.placements) {
         let starred = patch(&placement, &mut buffer[placement.span.bytes(case.width as usize)]);

@@ -1,12 +1,13 @@
 //! Counts of calls by their answer's number.
 
 use crate::readback::Outcome;
+use crate::signs::SignTally;
 use std::fmt;
 
 /// Refusal numbers run from 1 to 13; 0 is accepted.
 const NUMBERS: usize = 14;
-/// A refusal, and writings of many items, are to be reached so often.
-const ENOUGH: usize = 100;
+/// A refusal, writings of many items, and what sign settings are for, are to be reached so often.
+pub const ENOUGH: usize = 100;
 
 #[derive(Clone, Copy, Debug, PartialEq, Eq)]
 pub enum Call {
@@ -43,6 +44,7 @@ pub struct Tally {
     full_parts: usize,
     several_small_parts: usize,
     several_parts: usize,
+    pub signs: SignTally,
 }
 
 impl Tally {
@@ -91,6 +93,7 @@ impl Tally {
                 found.push(format!("{name}: {count}, fewer than {ENOUGH}"));
             }
         }
+        found.extend(self.signs.shortcomings());
         for call in [Call::Write, Call::Read] {
             let all: usize = self.counts[call as usize].iter().sum();
             if self.of(call, 0) * 4 < all {
@@ -131,6 +134,7 @@ impl fmt::Display for Tally {
             self.read_back, self.refused_for_stars, self.covered_twice
         )?;
         write!(f, "\nitems that cover columns:")?;
-        self.parts().iter().try_for_each(|(name, count)| write!(f, " {name} {count};"))
+        self.parts().iter().try_for_each(|(name, count)| write!(f, " {name} {count};"))?;
+        write!(f, "\n{}", self.signs)
     }
 }

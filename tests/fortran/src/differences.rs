@@ -50,31 +50,55 @@ impl Class {
     }
 }
 
-/// A field's characters, written by the library alone in a record of its width.
-pub fn alone(field: Field, value: Value, area: &[u8], width: u64) -> Vec<u8> {
+/// A field's characters, written by the library alone in a record of its width, after SP where there is to be a plus.
+pub fn alone(field: Field, plus: bool, value: Value, area: &[u8], width: u64) -> Vec<u8> {
     let mut record = vec![b' '; width as usize];
-    let text = format!("({})", format::field_text(field));
+    let text = format!("({}{})", if plus { "SP," } else { "" }, format::field_text(field));
     calls::write(width, text.as_bytes(), &[value], 1, area, &mut record).expect("a field alone");
     record
 }
 
+/// A decimal under Fw.d, after SP where there is to be a plus.
+#[derive(Clone, Copy)]
+pub struct Number {
+    pub w: u64,
+    pub d: u64,
+    pub plus: bool,
+    pub units: i64,
+    pub places: u64,
+}
+
+impl Number {
+    /// The field that the library writes for it.
+    fn field(self) -> Vec<u8> {
+        let Number { w, d, plus, units, places } = self;
+        alone(Field::Decimal { w, d }, plus, Value::Decimal { units, places }, b"", w)
+    }
+
+    /// The units at d places, halves away from zero.
+    fn at_places(self) -> Option<i64> {
+        exact::at_places(self.units, self.places, self.d)
+    }
+}
+
 /// What a compiler is known to write for a decimal, and why, where it is not what the rules ask.
-pub fn decimal_written(compiler: Compiler, w: u64, d: u64, units: i64, places: u64) -> Option<(Vec<u8>, Vec<Class>)> {
+pub fn decimal_written(compiler: Compiler, number: Number) -> Option<(Vec<u8>, Vec<Class>)> {
     match compiler {
         Compiler::Gfortran => None,
-        Compiler::Flang if exact::at_places(units, places, d) == Some(0) => by_flang(w, d, units, places),
+        Compiler::Flang if number.at_places() == Some(0) => by_flang(number),
         Compiler::Flang => None,
-        Compiler::F2c => by_f2c(w, d, units, places),
+        Compiler::F2c => by_f2c(number),
     }
 }
 
 /// What rounds to zero: flang rounds to d digits first, at least one, so that a little less than a half becomes one,
 /// and keeps the minus of a zero.
-fn by_flang(w: u64, d: u64, units: i64, places: u64) -> Option<(Vec<u8>, Vec<Class>)> {
+fn by_flang(number: Number) -> Option<(Vec<u8>, Vec<Class>)> {
+    let Number { w, d, units, places, .. } = number;
     let digits = d.max(1);
     if exact::double_at_places(units, places, d + digits) == 5 * 10u128.pow(digits as u32 - 1) {
-        let last = Value::Decimal { units: units.signum(), places: d };
-        return Some((alone(Field::Decimal { w, d }, last, b"", w), vec![Class::RoundedTwice]));
+        let last = Number { units: units.signum(), places: d, ..number };
+        return Some((last.field(), vec![Class::RoundedTwice]));
     }
     (units < 0).then(|| (minus_zero(w, d), vec![Class::MinusZero]))
 }
@@ -93,13 +117,13 @@ fn minus_zero(w: u64, d: u64) -> Vec<u8> {
 }
 
 /// libf2c rounds halves to even, and leaves out the zero before the point if d is not 0.
-fn by_f2c(w: u64, d: u64, units: i64, places: u64) -> Option<(Vec<u8>, Vec<Class>)> {
+fn by_f2c(number: Number) -> Option<(Vec<u8>, Vec<Class>)> {
+    let Number { d, units, places, .. } = number;
     let mut classes = Vec::new();
-    let field = Field::Decimal { w, d };
-    let asked = alone(field, Value::Decimal { units, places }, b"", w);
+    let asked = number.field();
     let mut written = asked.clone();
     if let Some(even) = exact::half_to_even(units, places, d) {
-        written = alone(field, Value::Decimal { units: even, places: d }, b"", w);
+        written = Number { units: even, places: d, ..number }.field();
         if written != asked {
             classes.push(Class::HalfToEven);
         }
@@ -113,7 +137,7 @@ fn by_f2c(w: u64, d: u64, units: i64, places: u64) -> Option<(Vec<u8>, Vec<Class
 
 fn without_zero(field: &[u8]) -> Option<Vec<u8>> {
     let first = field.iter().position(|&byte| byte != b' ')?;
-    let zero = first + usize::from(field[first] == b'-');
+    let zero = first + usize::from(b"+-".contains(&field[first]));
     if field.get(zero..zero + 2) != Some(b"0.") {
         return None;
     }

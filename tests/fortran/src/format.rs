@@ -8,6 +8,14 @@ pub enum Field {
     Text { w: Option<u64> },
 }
 
+/// The items that set which sign a number is written with.
+#[derive(Clone, Copy, Debug, PartialEq, Eq)]
+pub enum Sign {
+    SP,
+    SS,
+    S,
+}
+
 #[derive(Clone, Debug)]
 pub enum Item {
     Field { repeat: Option<u64>, field: Field },
@@ -16,6 +24,7 @@ pub enum Item {
     Tab(u64),
     Slash(Option<u64>),
     Literal { mark: u8, characters: Vec<u8> },
+    Sign(Sign),
 }
 
 /// What a format's text has to do without for a compiler.
@@ -72,6 +81,7 @@ fn put_item(out: &mut Vec<u8>, item: &Item, dialect: Dialect) {
             out.extend(format!("{}X", characters.len()).bytes());
         }
         Item::Literal { mark, characters } => put_literal(out, *mark, characters),
+        Item::Sign(sign) => out.extend(sign_text(*sign).bytes()),
     }
 }
 
@@ -91,6 +101,14 @@ fn put_literal(out: &mut Vec<u8>, mark: u8, characters: &[u8]) {
         }
     }
     out.push(mark);
+}
+
+fn sign_text(sign: Sign) -> &'static str {
+    match sign {
+        Sign::SP => "SP",
+        Sign::SS => "SS",
+        Sign::S => "S",
+    }
 }
 
 pub fn field_text(field: Field) -> String {

@@ -2,7 +2,7 @@
 
 use crate::calls::Value;
 use crate::compiler::Compiler;
-use crate::format::{self, Field, Item};
+use crate::format::{self, Field, Item, Sign};
 use crate::models::{self, File};
 use crate::values::{self, Choice};
 use crate::walk::{self, Layout, Met};
@@ -124,6 +124,9 @@ fn known_in_walk(choice: Choice, items: &[Item], steps: &[Met]) -> bool {
 fn random_format(rng: &mut Random, choice: Choice) -> Vec<Item> {
     let most = rng.pick(&[3, 4, 6, 9, 12]);
     let mut items = items(rng, 0, most);
+    if rng.one_in(5) {
+        items.insert(0, Item::Sign(Sign::SP));
+    }
     if choice.plain || rng.one_in(2) {
         return items;
     }
@@ -146,7 +149,7 @@ fn random_format(rng: &mut Random, choice: Choice) -> Vec<Item> {
 fn lengths(rng: &mut Random, steps: &[Met], count: usize) -> Vec<u64> {
     let mut lengths = vec![0; count];
     for step in steps {
-        if let Met::Field { element, field: Field::Text { w } } = step {
+        if let Met::Field { element, field: Field::Text { w }, .. } = step {
             lengths[*element] = values::text_length(rng, *w);
         }
     }
@@ -156,8 +159,8 @@ fn lengths(rng: &mut Random, steps: &[Met], count: usize) -> Vec<u64> {
 fn elements(rng: &mut Random, steps: &[Met], lengths: &[u64], choice: Choice, area: &mut Vec<u8>) -> Vec<Value> {
     let mut elements = Vec::new();
     for step in steps {
-        if let Met::Field { element, field } = step {
-            elements.push(values::element(rng, *field, lengths[*element], choice, area));
+        if let Met::Field { element, field, plus } = step {
+            elements.push(values::element(rng, (*field, *plus), lengths[*element], choice, area));
         }
     }
     elements
@@ -204,10 +207,11 @@ fn items(rng: &mut Random, level: u64, most: u64) -> Vec<Item> {
 fn item(rng: &mut Random, level: u64, most: u64) -> Item {
     match rng.below(100) {
         0..=14 if level < 4 => Item::Group { repeat: repeat(rng), items: items(rng, level + 1, most.min(4)) },
-        15..=24 => Item::Skip(small(rng, 6)),
-        25..=33 => Item::Tab(small(rng, 40)),
-        34..=41 => Item::Slash(repeat(rng)),
-        42..=52 => literal(rng),
+        15..=23 => Item::Skip(small(rng, 6)),
+        24..=30 => Item::Tab(small(rng, 40)),
+        31..=37 => Item::Slash(repeat(rng)),
+        38..=46 => literal(rng),
+        47..=56 => Item::Sign(rng.pick(&[Sign::SP, Sign::SP, Sign::SP, Sign::SS, Sign::S])),
         _ => Item::Field { repeat: repeat(rng), field: field(rng) },
     }
 }

@@ -2,7 +2,7 @@
 
 use crate::calls::Value;
 use crate::compiler::Compiler;
-use crate::differences::{self, Class, Got, Read};
+use crate::differences::{self, Class, Got, Number, Read};
 use crate::format::Field;
 use crate::generate::Sheet;
 use crate::walk::{self, Layout, Met};
@@ -15,13 +15,13 @@ fn characters(sheet: &Sheet, steps: &[Met], compiler: Option<Compiler>) -> (Vec<
     let lengths = sheet.lengths();
     let mut classes = Vec::new();
     let texts = steps.iter().map(|step| match step {
-        Met::Field { element, field } => {
+        Met::Field { element, field, plus } => {
             let value = sheet.elements[*element];
-            if let Some((text, why)) = deviating(compiler, *field, value) {
+            if let Some((text, why)) = deviating(compiler, *field, *plus, value) {
                 classes.extend(why);
                 return text;
             }
-            differences::alone(*field, value, &sheet.area, walk::columns(step, &lengths))
+            differences::alone(*field, *plus, value, &sheet.area, walk::columns(step, &lengths))
         }
         Met::Literal(characters) => characters.clone(),
         _ => Vec::new(),
@@ -30,10 +30,10 @@ fn characters(sheet: &Sheet, steps: &[Met], compiler: Option<Compiler>) -> (Vec<
     (texts, classes)
 }
 
-fn deviating(compiler: Option<Compiler>, field: Field, value: Value) -> Option<(Vec<u8>, Vec<Class>)> {
+fn deviating(compiler: Option<Compiler>, field: Field, plus: bool, value: Value) -> Option<(Vec<u8>, Vec<Class>)> {
     match (compiler, field, value) {
         (Some(compiler), Field::Decimal { w, d }, Value::Decimal { units, places }) => {
-            differences::decimal_written(compiler, w, d, units, places)
+            differences::decimal_written(compiler, Number { w, d, plus, units, places })
         }
         _ => None,
     }
@@ -94,7 +94,7 @@ pub fn written(compiler: Compiler, sheet: &Sheet) -> File {
 /// The file after flang's return, foreseen where every element still meets a field of its kind within the records.
 fn returned(sheet: &Sheet, steps: &[Met]) -> File {
     let suited = steps.iter().all(|step| match step {
-        Met::Field { element, field } => suits(*field, sheet.elements[*element]),
+        Met::Field { element, field, .. } => suits(*field, sheet.elements[*element]),
         _ => true,
     });
     let layout = walk::layout(steps, &sheet.lengths());
@@ -196,7 +196,8 @@ fn laid_by_gfortran(sheet: &Sheet, steps: &[Met], texts: &[Vec<u8>]) -> Result<V
             Met::Skip(n) => pen.skip(*n as i64),
             Met::Tab(n) => pen.tab(*n as i64),
             Met::Next => pen.end(),
-            _ => pen.put(text)?,
+            Met::Sign(_) => {}
+            Met::Field { .. } | Met::Literal(_) => pen.put(text)?,
         }
     }
     pen.end();
@@ -216,7 +217,7 @@ pub fn read(compiler: Compiler, sheet: &Sheet, records: &[u8]) -> Foreseen {
     let (steps, lengths) = (sheet.steps(), sheet.lengths());
     let (mut values, mut classes) = (Vec::new(), Vec::new());
     for place in sheet.layout().places {
-        let Met::Field { element, field } = &steps[place.step] else { continue };
+        let Met::Field { element, field, .. } = &steps[place.step] else { continue };
         let at = (place.record * sheet.width + place.column) as usize;
         let bytes = &records[at..at + place.width as usize];
         let last = element + 1 == sheet.elements.len();

@@ -48,10 +48,12 @@ fn tell(tally: &mut Tally, what: &'static str, verdict: Verdict) {
 type Corrupt = fn(&[u8], usize) -> Option<Vec<u8>>;
 
 /// Each with its name where the library's file is corrupted, and where the compiler's is.
-const WRITING: [(&str, &str, Corrupt); 4] = [
+const WRITING: [(&str, &str, Corrupt); 6] = [
     ("library: a column shifted", "compiler: a column shifted", shifted),
     ("library: a digit changed", "compiler: a digit changed", digit),
     ("library: an asterisk fewer", "compiler: an asterisk fewer", asterisk),
+    ("library: a plus left out", "compiler: a plus left out", no_plus),
+    ("library: a minus in place of a plus", "compiler: a minus in place of a plus", minus_for_plus),
     ("library: a record untouched", "compiler: a record untouched", untouched),
 ];
 
@@ -75,6 +77,23 @@ fn digit(file: &[u8], _width: usize) -> Option<Vec<u8>> {
 fn asterisk(file: &[u8], _width: usize) -> Option<Vec<u8>> {
     let mut out = file.to_vec();
     *out.iter_mut().find(|byte| **byte == b'*')? = b' ';
+    Some(out)
+}
+
+fn no_plus(file: &[u8], _width: usize) -> Option<Vec<u8>> {
+    with_sign(file, b' ')
+}
+
+fn minus_for_plus(file: &[u8], _width: usize) -> Option<Vec<u8>> {
+    with_sign(file, b'-')
+}
+
+/// Another byte in place of a number's plus.
+fn with_sign(file: &[u8], byte: u8) -> Option<Vec<u8>> {
+    let mut out = file.to_vec();
+    let number = |pair: &[u8]| pair[0] == b'+' && (pair[1].is_ascii_digit() || pair[1] == b'.');
+    let at = out.windows(2).position(number)?;
+    out[at] = byte;
     Some(out)
 }
 

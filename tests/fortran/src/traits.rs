@@ -1,6 +1,6 @@
 //! What a sheet has, so that a run can say what it has covered.
 
-use crate::format::Item;
+use crate::format::{Field, Item, Sign};
 use crate::generate::Sheet;
 use crate::walk::{self, Met};
 
@@ -13,6 +13,12 @@ pub fn of(sheet: &Sheet) -> Vec<(&'static str, bool)> {
         ("X", meets(|step| matches!(step, Met::Skip(_)))),
         ("T", meets(|step| matches!(step, Met::Tab(_)))),
         ("literals", meets(|step| matches!(step, Met::Literal(_)))),
+        ("SP", meets(|step| matches!(step, Met::Sign(Sign::SP)))),
+        ("SS", meets(|step| matches!(step, Met::Sign(Sign::SS)))),
+        ("S", meets(|step| matches!(step, Met::Sign(Sign::S)))),
+        ("numbers after SP", meets(number_after_sp)),
+        ("numbers after SP in a later record", kept_over_records(&steps)),
+        ("numbers after SP and then SS or S", turned_off(&steps)),
         ("several records", layout.records > 1),
         ("groups", depth > 0),
         ("groups of level 3 or 4", depth > 2),
@@ -21,6 +27,30 @@ pub fn of(sheet: &Sheet) -> Vec<(&'static str, bool)> {
         ("columns covered twice", walk::covered_twice(&layout.places)),
         ("over 32 elements", sheet.elements.len() > 32),
     ]
+}
+
+fn number_after_sp(step: &Met) -> bool {
+    matches!(step, Met::Field { field: Field::Integer { .. } | Field::Decimal { .. }, plus: true, .. })
+}
+
+/// Whether a number is written after SP in a record that follows SP's own.
+fn kept_over_records(steps: &[Met]) -> bool {
+    let mut later = false;
+    steps.iter().any(|step| {
+        match step {
+            Met::Sign(_) => later = false,
+            Met::Next => later = true,
+            _ => {}
+        }
+        later && number_after_sp(step)
+    })
+}
+
+fn turned_off(steps: &[Met]) -> bool {
+    let mut rest = steps.iter().skip_while(|step| !number_after_sp(step));
+    rest.any(|step| {
+        matches!(step, Met::Field { field: Field::Integer { .. } | Field::Decimal { .. }, plus: false, .. })
+    })
 }
 
 fn depth(items: &[Item]) -> u64 {

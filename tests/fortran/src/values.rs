@@ -2,7 +2,7 @@
 
 use crate::calls::Value;
 use crate::compiler::Compiler;
-use crate::differences;
+use crate::differences::{self, Number};
 use crate::exact;
 use crate::format::Field;
 use random::Random;
@@ -17,10 +17,17 @@ pub struct Choice {
     pub reading: bool,
 }
 
-pub fn element(rng: &mut Random, field: Field, length: u64, choice: Choice, area: &mut Vec<u8>) -> Value {
+/// An element for a field; `plus` tells whether the field is met after SP.
+pub fn element(
+    rng: &mut Random,
+    (field, plus): (Field, bool),
+    length: u64,
+    choice: Choice,
+    area: &mut Vec<u8>,
+) -> Value {
     match field {
         Field::Integer { w } => Value::Integer(integer(rng, w, choice.compiler)),
-        Field::Decimal { w, d } => decimal(rng, w, d, choice),
+        Field::Decimal { w, d } => decimal(rng, w, d, plus, choice),
         Field::Logical { .. } => Value::Logical(rng.one_in(2)),
         Field::Text { .. } => text(rng, length, area),
     }
@@ -71,7 +78,7 @@ fn signed(rng: &mut Random, n: i64) -> i64 {
     }
 }
 
-fn decimal(rng: &mut Random, w: u64, d: u64, choice: Choice) -> Value {
+fn decimal(rng: &mut Random, w: u64, d: u64, plus: bool, choice: Choice) -> Value {
     for _ in 0..200 {
         let (units, places) = match rng.below(8) {
             0 | 1 => half(rng, w, d),
@@ -85,7 +92,8 @@ fn decimal(rng: &mut Random, w: u64, d: u64, choice: Choice) -> Value {
         if !exact::is_held(units, places, d) {
             continue;
         }
-        if choice.plain && differences::decimal_written(choice.compiler, w, d, units, places).is_some() {
+        let number = Number { w, d, plus, units, places };
+        if choice.plain && differences::decimal_written(choice.compiler, number).is_some() {
             continue;
         }
         return Value::Decimal { units, places };

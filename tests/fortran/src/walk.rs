@@ -1,14 +1,17 @@
 //! The items that a walk meets, in order, and where the rules put them.
 //! The order does not depend on columns, so it holds for every compiler.
 
-use crate::format::{Field, Item};
+use crate::format::{Field, Item, Sign};
 
 #[derive(Clone, Debug, PartialEq, Eq)]
 pub enum Met {
     Field {
         element: usize,
         field: Field,
+        /// Whether it is met after SP: a number of zero or more carries a plus.
+        plus: bool,
     },
+    Sign(Sign),
     Literal(Vec<u8>),
     Skip(u64),
     Tab(u64),
@@ -37,14 +40,18 @@ fn group(items: &[Item]) -> Option<usize> {
 fn met_returning(items: &[Item], count: usize, part: &[Item]) -> Option<Vec<Met>> {
     let part = unrolled(part);
     let has_field = part.iter().any(|step| matches!(step, Met::Field { .. }));
-    let (mut run, mut steps, mut taken) = (unrolled(items), Vec::new(), 0);
+    let (mut run, mut steps, mut taken, mut plus) = (unrolled(items), Vec::new(), 0, false);
     loop {
         for step in run {
             match step {
                 Met::Field { .. } if taken == count => return Some(steps),
                 Met::Field { field, .. } => {
-                    steps.push(Met::Field { element: taken, field });
+                    steps.push(Met::Field { element: taken, field, plus });
                     taken += 1;
+                }
+                Met::Sign(sign) => {
+                    steps.push(step);
+                    plus = sign == Sign::SP;
                 }
                 other => steps.push(other),
             }
@@ -71,7 +78,7 @@ fn unroll(run: &mut Vec<Met>, item: &Item) {
     match item {
         Item::Field { repeat, field } => {
             for _ in 0..repeat.unwrap_or(1) {
-                run.push(Met::Field { element: 0, field: *field });
+                run.push(Met::Field { element: 0, field: *field, plus: false });
             }
         }
         Item::Group { repeat, items } => {
@@ -83,6 +90,7 @@ fn unroll(run: &mut Vec<Met>, item: &Item) {
         Item::Tab(n) => run.push(Met::Tab(*n)),
         Item::Slash(repeat) => run.extend((0..repeat.unwrap_or(1)).map(|_| Met::Next)),
         Item::Literal { characters, .. } => run.push(Met::Literal(characters.clone())),
+        Item::Sign(sign) => run.push(Met::Sign(*sign)),
     }
 }
 
@@ -99,7 +107,7 @@ pub fn fields(items: &[Item]) -> usize {
 /// Columns that an item met covers; `lengths` are those of the texts.
 pub fn columns(step: &Met, lengths: &[u64]) -> u64 {
     match step {
-        Met::Field { element, field } => match *field {
+        Met::Field { element, field, .. } => match *field {
             Field::Integer { w } | Field::Decimal { w, .. } | Field::Logical { w } => w,
             Field::Text { w } => w.unwrap_or(lengths[*element]),
         },
@@ -138,7 +146,8 @@ pub fn layout(steps: &[Met], lengths: &[u64]) -> Layout {
                 out.records += 1;
                 column = 0;
             }
-            _ => {
+            Met::Sign(_) => {}
+            Met::Field { .. } | Met::Literal(_) => {
                 let width = columns(item, lengths);
                 out.places.push(Place { step, record: out.records - 1, column, width });
                 column += width;
@@ -165,7 +174,8 @@ pub fn tab_after_move(steps: &[Met]) -> bool {
         match step {
             Met::Tab(_) if moved => return true,
             Met::Tab(_) | Met::Skip(_) => moved = true,
-            _ => moved = false,
+            Met::Sign(_) => {}
+            Met::Field { .. } | Met::Literal(_) | Met::Next => moved = false,
         }
     }
     false

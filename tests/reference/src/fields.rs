@@ -2,6 +2,7 @@
 
 use crate::format::Field;
 use crate::list::LARGEST;
+use crate::walk::Settings;
 use crate::Value;
 
 /// A field's characters, and whether they are a numeric field's asterisks.
@@ -11,13 +12,16 @@ pub struct Written {
     pub starred: bool,
 }
 
-/// The field of width `w` for a value that suits it; nothing if the rounded
-/// units are too large.
-pub fn write(field: Field, value: Value, area: &[u8], w: usize) -> Option<Written> {
+/// The field of width `w` for a value that suits it, under the settings met
+/// before; nothing if the rounded units are too large.
+pub fn write(field: Field, settings: Settings, value: Value, area: &[u8], w: usize) -> Option<Written> {
     match (field, value) {
-        (Field::Integer { .. }, Value::Integer(n)) => Some(fit(n.to_string(), w)),
+        (Field::Integer { .. }, Value::Integer(n)) => {
+            Some(fit(format!("{}{}", sign(n, settings), n.unsigned_abs()), w))
+        }
         (Field::Decimal { d, .. }, Value::Decimal { units, places }) => {
-            Some(fit(decimal_numeral(rounded(units, places, d)?, d as usize, w), w))
+            let units = rounded(units, places, d)?;
+            Some(fit(decimal_numeral(sign(units, settings), units.unsigned_abs(), d as usize, w), w))
         }
         (Field::Logical { .. }, Value::Logical(b)) => Some(unstarred(logical(b, w))),
         (_, Value::Text { start, len }) => Some(unstarred(text(&area[start as usize..][..len as usize], w))),
@@ -42,12 +46,22 @@ fn power_of_ten(exponent: u64) -> i128 {
     10_i128.pow(exponent as u32)
 }
 
-/// The shortest numeral with d places, or one with a zero before the point for
-/// the integer part 0 "where a column is free" in w, or where it is the only digit.
-fn decimal_numeral(units: i64, d: usize, w: usize) -> String {
-    let sign = if units < 0 { "-" } else { "" };
+/// The sign of a numeral for the number: "− exactly for a value below zero after
+/// rounding"; for another "+" after SP, and none after SS or S.
+fn sign(number: i64, settings: Settings) -> &'static str {
+    match (number < 0, settings.plus) {
+        (true, _) => "-",
+        (false, true) => "+",
+        (false, false) => "",
+    }
+}
+
+/// The shortest numeral with this sign and d places, or one with a zero before
+/// the point for the integer part 0 "where a column is free" in w, or where it
+/// is the only digit.
+fn decimal_numeral(sign: &str, magnitude: u64, d: usize, w: usize) -> String {
     let power = 10_u64.pow(d as u32);
-    let (whole, part) = (units.unsigned_abs() / power, units.unsigned_abs() % power);
+    let (whole, part) = (magnitude / power, magnitude % power);
     let places = if d > 0 { format!("{part:0d$}") } else { String::new() };
     if whole == 0 && d > 0 && sign.len() + 2 + d > w {
         format!("{sign}.{places}")

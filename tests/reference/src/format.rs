@@ -6,7 +6,7 @@ use std::ops::RangeInclusive;
 /// "At most 1,024 bytes."
 const LONGEST: usize = 1024;
 /// "The format's size ... is at most 4,096."
-const LARGEST: u64 = 4096;
+pub const LARGEST: u64 = 4096;
 /// "A group of level 4 holds no group."
 const DEEPEST: usize = 4;
 
@@ -21,6 +21,14 @@ pub enum Field {
     Decimal { w: u64, d: u64 },
     Logical { w: u64 },
     Text { w: Option<u64> },
+}
+
+/// The items that set which sign a numeral carries.
+#[derive(Clone, Copy, Debug, PartialEq, Eq)]
+pub enum Sign {
+    SP,
+    SS,
+    S,
 }
 
 #[derive(Clone, Debug, PartialEq, Eq)]
@@ -41,6 +49,7 @@ pub enum Item {
         repeat: u64,
     },
     Literal(Vec<u8>),
+    Sign(Sign),
 }
 
 impl Item {
@@ -49,7 +58,7 @@ impl Item {
         match self {
             Item::Field { repeat, .. } | Item::Slash { repeat } => *repeat,
             Item::Group { repeat, items } => repeat * size(items),
-            Item::Skip(_) | Item::Tab(_) | Item::Literal(_) => 1,
+            Item::Skip(_) | Item::Tab(_) | Item::Literal(_) | Item::Sign(_) => 1,
         }
     }
 
@@ -78,6 +87,15 @@ pub struct Format {
 
 impl Format {
     pub fn parse(text: &[u8]) -> Result<Format, Refusal> {
+        let format = Format::read(text)?;
+        if format.size() > LARGEST {
+            return Err(Refusal::new(5, 0));
+        }
+        Ok(format)
+    }
+
+    /// A format of any size: rows 2 to 4.
+    pub fn read(text: &[u8]) -> Result<Format, Refusal> {
         if text.len() > LONGEST {
             return Err(Refusal::new(2, LONGEST));
         }
@@ -88,11 +106,7 @@ impl Format {
         if let Some(offset) = reader.out_of_range {
             return Err(Refusal::new(4, offset));
         }
-        let format = Format { items };
-        if format.size() > LARGEST {
-            return Err(Refusal::new(5, 0));
-        }
-        Ok(format)
+        Ok(Format { items })
     }
 
     pub fn size(&self) -> u64 {
@@ -144,6 +158,7 @@ impl Reader<'_> {
         match self.next() {
             Some(b'0'..=b'9') => self.numbered(level),
             Some(b'T') => self.tab(),
+            Some(b'S') => self.sign(),
             Some(mark @ (b'\'' | b'"')) => self.literal(mark),
             _ => self.repeatable(1, level),
         }
@@ -190,6 +205,20 @@ impl Reader<'_> {
     fn tab(&mut self) -> Result<Item, Ungrammatical> {
         self.expect(b'T')?;
         Ok(Item::Tab(self.number(REPEAT)?))
+    }
+
+    /// "SP, SS and S ... are items without repeat." After S alone only a comma or
+    /// a bracket follows, so a P or S there belongs to the item.
+    fn sign(&mut self) -> Result<Item, Ungrammatical> {
+        self.expect(b'S')?;
+        let sign = if self.take(b'P') {
+            Sign::SP
+        } else if self.take(b'S') {
+            Sign::SS
+        } else {
+            Sign::S
+        };
+        Ok(Item::Sign(sign))
     }
 
     /// "One or more characters, bytes 32 to 126, ...; the enclosing mark is

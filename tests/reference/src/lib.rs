@@ -13,7 +13,7 @@ pub mod trace;
 pub mod walk;
 
 use format::Format;
-use walk::{Span, Visitor};
+use walk::{Met, Span, Visitor};
 
 pub use list::list_text;
 pub use sheet::{host_check, host_write, sheet};
@@ -132,8 +132,9 @@ impl Writer<'_> {
 }
 
 impl Visitor for Writer<'_> {
-    fn field(&mut self, field: format::Field, element: usize, value: Value, span: Span) -> Result<(), Refusal> {
-        let written = fields::write(field, value, self.area, span.width).ok_or(Refusal::new(11, element))?;
+    fn field(&mut self, Met { field, settings, element, value, span }: Met) -> Result<(), Refusal> {
+        let written = fields::write(field, settings, value, self.area, span.width);
+        let written = written.ok_or(Refusal::new(11, element))?;
         self.starred += u64::from(written.starred);
         self.put(span, &written.characters);
         Ok(())
@@ -153,9 +154,10 @@ struct Reader<'a> {
 }
 
 impl Visitor for Reader<'_> {
-    fn field(&mut self, field: format::Field, element: usize, wanted: Value, span: Span) -> Result<(), Refusal> {
+    /// "Reading ignores the setting."
+    fn field(&mut self, Met { field, element, value, span, .. }: Met) -> Result<(), Refusal> {
         let bytes = &self.records[span.bytes(self.width)];
-        let value = fields::read(field, wanted, bytes, &mut self.texts).ok_or(Refusal::new(12, element))?;
+        let value = fields::read(field, value, bytes, &mut self.texts).ok_or(Refusal::new(12, element))?;
         self.values.push(value);
         Ok(())
     }

@@ -2,7 +2,7 @@
 
 use crate::fields;
 use crate::format::{has_field, Field, Format, Item};
-use crate::walk::{walk, Span, Visitor};
+use crate::walk::{walk, Met, Settings, Span, Visitor};
 use crate::{check_call, list, Refusal, Value};
 use std::collections::BTreeSet;
 
@@ -16,7 +16,7 @@ pub struct Placement {
 #[derive(Clone, Debug, PartialEq, Eq)]
 pub enum Content {
     Literal,
-    Field { field: Field, element: usize, value: Value, shown: Shown, starred: bool },
+    Field { field: Field, settings: Settings, element: usize, value: Value, shown: Shown, starred: bool },
 }
 
 /// The shown value; a text is compared by its bytes.
@@ -67,10 +67,11 @@ struct Tracer<'a> {
 }
 
 impl Visitor for Tracer<'_> {
-    fn field(&mut self, field: Field, element: usize, value: Value, span: Span) -> Result<(), Refusal> {
-        let written = fields::write(field, value, self.area, span.width).ok_or(Refusal::new(11, element))?;
+    fn field(&mut self, Met { field, settings, element, value, span }: Met) -> Result<(), Refusal> {
+        let written = fields::write(field, settings, value, self.area, span.width);
+        let starred = written.ok_or(Refusal::new(11, element))?.starred;
         let shown = shown(field, value, self.area, span.width);
-        let content = Content::Field { field, element, value, shown, starred: written.starred };
+        let content = Content::Field { field, settings, element, value, shown, starred };
         self.placements.push(Placement { span, content });
         Ok(())
     }

@@ -1,6 +1,6 @@
 //! The walk over a format's items, with its columns, records and elements.
 
-use crate::format::{has_field, Field, Format, Item};
+use crate::format::{has_field, Field, Format, Item, Sign};
 use crate::{Refusal, Value};
 use std::ops::Range;
 
@@ -20,10 +20,35 @@ impl Span {
     }
 }
 
+/// What the items met so far set for the fields that follow. "The walk ...
+/// starts with SS."
+#[derive(Clone, Copy, Debug, Default, PartialEq, Eq)]
+pub struct Settings {
+    /// "After SP, a numeral for a value of zero or more must carry +."
+    pub plus: bool,
+}
+
+impl Settings {
+    /// The settings after such an item: "after SS or S the rule above holds".
+    pub fn after(self, sign: Sign) -> Settings {
+        Settings { plus: sign == Sign::SP }
+    }
+}
+
 /// What is done at the covering items that the walk meets.
 pub trait Visitor {
-    fn field(&mut self, field: Field, element: usize, value: Value, span: Span) -> Result<(), Refusal>;
+    fn field(&mut self, met: Met) -> Result<(), Refusal>;
     fn literal(&mut self, characters: &[u8], span: Span);
+}
+
+/// A field that the walk meets, with the element that it takes.
+#[derive(Clone, Copy, Debug, PartialEq, Eq)]
+pub struct Met {
+    pub field: Field,
+    pub settings: Settings,
+    pub element: usize,
+    pub value: Value,
+    pub span: Span,
 }
 
 /// Walks the format for a list, with room for so many records of the given
@@ -38,7 +63,8 @@ pub fn walk(
     if room == 0 {
         return Err(Refusal::new(9, 0));
     }
-    let mut walk = Walk { width, room, record: 0, column: 1, list, taken: 0, visitor };
+    let settings = Settings::default();
+    let mut walk = Walk { width, room, record: 0, column: 1, settings, list, taken: 0, visitor };
     match walk.format(format) {
         Ok(()) | Err(Stop::End) => Ok(walk.record + 1),
         Err(Stop::Refused(refusal)) => Err(refusal),
@@ -63,6 +89,7 @@ struct Walk<'a, V> {
     room: usize,
     record: usize,
     column: usize,
+    settings: Settings,
     list: &'a [Value],
     taken: usize,
     visitor: &'a mut V,
@@ -93,6 +120,10 @@ impl<V: Visitor> Walk<'_, V> {
             Item::Tab(n) => Ok(self.move_to(*n as usize)?),
             Item::Slash { repeat } => Ok((0..*repeat).try_for_each(|_| self.next_record())?),
             Item::Literal(characters) => Ok(self.literal(characters)?),
+            Item::Sign(sign) => {
+                self.settings = self.settings.after(*sign);
+                Ok(())
+            }
         }
     }
 
@@ -105,7 +136,7 @@ impl<V: Visitor> Walk<'_, V> {
             return Err(self.refuse(7).into());
         };
         let span = self.move_on(width)?;
-        self.visitor.field(field, self.taken, value, span)?;
+        self.visitor.field(Met { field, settings: self.settings, element: self.taken, value, span })?;
         self.taken += 1;
         Ok(())
     }

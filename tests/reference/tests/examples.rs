@@ -1,6 +1,6 @@
 //! The rules' examples, and corners.
 
-use reference::trace::{fields_met, trace, Shown};
+use reference::trace::{fields_met, trace, Content, Shown};
 use reference::Value::{Decimal, Integer, Logical, Text};
 use reference::*;
 
@@ -103,6 +103,61 @@ fn integers_read() {
     assert_eq!(read_one("I20", Integer(5), b"-0999999999999999999"), Ok(Integer(-largest)));
     assert_eq!(read_one("I20", Integer(5), b" 1000000000000000000"), refusal(12, 0));
     assert_eq!(read_one("I64", Integer(5), &[b'9'; 64]), refusal(12, 0));
+}
+
+#[test]
+fn plus_signs() {
+    let after_sp = |w, descriptor: &str, value| field(w, &format!("SP,{descriptor}"), value);
+    let integers = [
+        (3, 5, " +5"),
+        (3, 0, " +0"),
+        (3, -5, " -5"),
+        (2, 9, "+9"),
+        (2, 10, "**"),
+        (2, -1, "-1"),
+        (2, -10, "**"),
+        (1, 0, "*"),
+    ];
+    for (w, n, expected) in integers {
+        assert_eq!(after_sp(w, &format!("I{w}"), Integer(n)), expected, "{n}");
+    }
+    assert_eq!(after_sp(5, "F5.1", decimal(3, 1)), " +0.3");
+    assert_eq!(after_sp(4, "F4.1", decimal(3, 1)), "+0.3");
+    assert_eq!(after_sp(3, "F3.1", decimal(3, 1)), "+.3");
+    assert_eq!(after_sp(2, "F2.1", decimal(3, 1)), "**");
+    assert_eq!(after_sp(4, "F4.1", decimal(-4, 2)), "+0.0");
+    assert_eq!(after_sp(4, "F4.1", decimal(-5, 2)), "-0.1");
+    assert_eq!(after_sp(4, "F4.1", decimal(995, 2)), "****");
+    assert_eq!(after_sp(5, "F5.1", decimal(995, 2)), "+10.0");
+    assert_eq!(after_sp(2, "F2.0", decimal(0, 0)), "**");
+    assert_eq!(after_sp(3, "F3.0", decimal(0, 0)), "+0.");
+    assert_eq!(after_sp(2, "L2", Logical(true)), " T");
+}
+
+#[test]
+fn a_sign_setting_holds_until_the_next() {
+    let numbers: Vec<Value> = (1..=5).map(Integer).collect();
+    assert_eq!(written(9, "(SP,I3,SS,I3,SP,I3,S,I3)", &numbers[..2], "").0, " +1  2   ");
+    assert_eq!(written(12, "(SP,I3,SS,I3,SP,I3,S,I3)", &numbers[..4], "").0, " +1  2 +3  4");
+    assert_eq!(written(9, "(I3,(I3,SP,I3))", &numbers, "").0, "  1  2 +3 +4 +5   ");
+    assert_eq!(written(3, "(I3,SP)", &numbers[..2], "").0, "  1 +2");
+    assert_eq!(written(3, "(SP,/,I3,2/,I3)", &numbers[..2], "").0, "    +1    +2");
+    assert_eq!(written(6, "(2(I3,SP))", &numbers[..3], "").0, "  1 +2 +3   ");
+    assert_eq!(written(3, "(SP)", &[], "").0, "   ");
+    assert_eq!(written(3, "(I3,SP,I9)", &numbers[..1], "").0, "  1");
+    assert_eq!(answer(9, "(I3,(SP,2(SS)),S)", &numbers[..2], 90), refusal(10, 1));
+    let met = trace(9, b"(I3,SP,I3)", &numbers, 2, b"", 1).unwrap().placements;
+    let plus = |content: &Content| matches!(content, Content::Field { settings, .. } if settings.plus);
+    assert_eq!(met.iter().map(|placement| plus(&placement.content)).collect::<Vec<_>>(), [false, true]);
+}
+
+#[test]
+fn reading_ignores_the_sign_setting() {
+    for bytes in [b"+5", b"05", b" 5", b"5 "] {
+        assert_eq!(read_one("SP,I2", Integer(0), bytes), Ok(Integer(5)));
+    }
+    assert_eq!(read_one("SP,I2", Integer(0), b"-0"), Ok(Integer(0)));
+    assert_eq!(read_one("SP,F4.1", decimal(0, 0), b" 5.0"), Ok(decimal(50, 1)));
 }
 
 #[test]
@@ -253,6 +308,28 @@ fn the_place_of_refusal_3() {
         ("(/3)", 2),
         ("(A,3A,3A4)", 99),
         ("(I-4)", 2),
+        ("(S", 2),
+        ("(SP", 3),
+        ("(S,", 3),
+        ("(S)", 99),
+        ("(S,I3)", 99),
+        ("(SP,SS,S,2(SP))", 99),
+        ("(SX)", 2),
+        ("(SPX)", 3),
+        ("(SPP)", 3),
+        ("(SSS)", 3),
+        ("(SSP)", 3),
+        ("(3SP)", 2),
+        ("(3S)", 2),
+        ("(SP3)", 3),
+        ("(S3)", 2),
+        ("(SPI3)", 3),
+        ("(S/)", 2),
+        ("(I3SP)", 3),
+        ("(sp)", 1),
+        ("(Sp)", 2),
+        ("(S P)", 2),
+        ("(P)", 1),
         ("(\u{7f})", 1),
         ("('\u{7f}')", 2),
     ];
@@ -276,6 +353,10 @@ fn ranges_sizes_and_lengths() {
     assert_eq!(place("(16(255I1,I1))"), Ok(()));
     assert_eq!(place("(16(255I1,I1),'x')"), refusal(5, 0));
     assert_eq!(place("(255(255(255(255(255I1)))))"), refusal(5, 0));
+    assert_eq!(place("(16(255(SP)),16(SP))"), Ok(()));
+    assert_eq!(place("(16(255(SP)),17(SP))"), refusal(5, 0));
+    assert_eq!(place("(16(255(SS)),15(S),I1)"), Ok(()));
+    assert_eq!(place("(16(255(SS)),15(S),I1,S)"), refusal(5, 0));
     let long = |n: usize| format!("('{}')", "x".repeat(n - 4));
     assert_eq!(place(&long(1024)), Ok(()));
     assert_eq!(place(&long(1025)), refusal(2, 1024));
@@ -436,6 +517,7 @@ fn traces() {
     assert!(matches!(&shown[1], trace::Content::Field { shown: Shown::Value(Decimal { units: 3, places: 1 }), .. }));
     assert_eq!(fields_met(b"(2I3,(L1))", 5).len(), 5);
     assert_eq!(fields_met(b"(2I3,(1X))", 5).len(), 2);
+    assert_eq!(fields_met(b"(2I3,(SP))", 5).len(), 2);
 }
 
 /// Endings that complete every beginning of a grammatical text.
@@ -460,9 +542,9 @@ fn is_beginning(text: &[u8], endings: &[Vec<u8>]) -> bool {
 #[test]
 fn the_place_of_refusal_3_by_trial() {
     let endings = endings();
-    let alphabet = b"(1I.F',)X/AT\"";
+    let alphabet = b"(1I.F',)X/AT\"SP";
     let texts = |length: u32| (0..alphabet.len().pow(length)).map(move |number| (number, length));
-    for start in ["", "(", "(I1", "(((((", "('", "(12", "(F1", "(\"'"] {
+    for start in ["", "(", "(I1", "(((((", "('", "(12", "(F1", "(\"'", "(S"] {
         for (mut number, length) in (0..=3).flat_map(texts) {
             let mut text = start.as_bytes().to_vec();
             for _ in 0..length {
