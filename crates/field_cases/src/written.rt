@@ -41,12 +41,11 @@ impl IntegerCase {
         }
     }
 
-    fn after_sp(width: usize, n: i64) -> Self
-        requires { (width ≤ 64) × (nat_abs n ≤ largest) }
-    {
+    // The same after SP.
+    fn after_sp(self) -> Self {
         IntegerCase {
-            width,
-            n,
+            width: self.width,
+            n: self.n,
             setting: SignSetting::AfterSP,
         }
     }
@@ -74,14 +73,13 @@ impl DecimalCase {
         }
     }
 
-    fn after_sp(width: usize, d: usize, units: i64, places: usize) -> Self
-        requires { (width ≤ 64) × (d ≤ most_places) × (nat_abs units ≤ largest) × (places ≤ most_places) }
-    {
+    // The same after SP.
+    fn after_sp(self) -> Self {
         DecimalCase {
-            width,
-            d,
-            units,
-            places,
+            width: self.width,
+            d: self.d,
+            units: self.units,
+            places: self.places,
             setting: SignSetting::AfterSP,
         }
     }
@@ -149,33 +147,35 @@ pub fn decimals() -> [DecimalCase; 20] {
 // After SP.
 pub fn integers_after_sp() -> [IntegerCase; 10] {
     [
-        IntegerCase::after_sp(3, 5),
-        IntegerCase::after_sp(3, 0),
-        IntegerCase::after_sp(3, -5),
-        IntegerCase::after_sp(2, 10),
-        IntegerCase::after_sp(2, -1),
-        IntegerCase::after_sp(2, -10),
-        IntegerCase::after_sp(1, 0),
-        IntegerCase::after_sp(2, 0),
-        IntegerCase::after_sp(18, 999_999_999_999_999_999),
-        IntegerCase::after_sp(20, 999_999_999_999_999_999),
+        IntegerCase::new(3, 5),
+        IntegerCase::new(3, 0),
+        IntegerCase::new(3, -5),
+        IntegerCase::new(2, 10),
+        IntegerCase::new(2, -1),
+        IntegerCase::new(2, -10),
+        IntegerCase::new(1, 0),
+        IntegerCase::new(2, 0),
+        IntegerCase::new(18, 999_999_999_999_999_999),
+        IntegerCase::new(20, 999_999_999_999_999_999),
     ]
+    .map(|case| case.after_sp())
 }
 
 pub fn decimals_after_sp() -> [DecimalCase; 11] {
     [
-        DecimalCase::after_sp(4, 1, 3, 1),
-        DecimalCase::after_sp(3, 1, 3, 1),
-        DecimalCase::after_sp(2, 1, 3, 1),
-        DecimalCase::after_sp(4, 1, -4, 2),
-        DecimalCase::after_sp(3, 1, -4, 2),
-        DecimalCase::after_sp(4, 1, -3, 1),
-        DecimalCase::after_sp(2, 0, 0, 0),
-        DecimalCase::after_sp(3, 0, 0, 0),
-        DecimalCase::after_sp(4, 1, 995, 2),
-        DecimalCase::after_sp(5, 1, 995, 2),
-        DecimalCase::after_sp(3, 9, 999_999_999_999_999_999, 0),
+        DecimalCase::new(4, 1, 3, 1),
+        DecimalCase::new(3, 1, 3, 1),
+        DecimalCase::new(2, 1, 3, 1),
+        DecimalCase::new(4, 1, -4, 2),
+        DecimalCase::new(3, 1, -4, 2),
+        DecimalCase::new(4, 1, -3, 1),
+        DecimalCase::new(2, 0, 0, 0),
+        DecimalCase::new(3, 0, 0, 0),
+        DecimalCase::new(4, 1, 995, 2),
+        DecimalCase::new(5, 1, 995, 2),
+        DecimalCase::new(3, 9, 999_999_999_999_999_999, 0),
     ]
+    .map(|case| case.after_sp())
 }
 
 // At the largest magnitude.

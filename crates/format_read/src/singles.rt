@@ -4,7 +4,9 @@ ghost use Rattle.std.specs.Prelude.{◌≡◌, [], Option, ℕ, ◌+◌, ◌<◌
 ghost use Rattle.format_items.specs.Items.{Repeat, times};
 ghost use Rattle.format_grammar.specs.Reading.{Use, Mode, wanted};
 ghost use Rattle.format_words.specs.declared.Word.TheVariants as word;
-ghost use Rattle.format_read.specs.Steps.{NumberFound, found, ended, ItemRead, item_read, NoBracketOrMark};
+ghost use Rattle.format_items.specs.Ranges.{repeat_numbers};
+ghost use Rattle.buffer.specs.Characters.{letter_t};
+ghost use Rattle.format_read.specs.Steps.{NumberFound, number_at, outside_after, found, ended, ItemRead, item_read, NoBracketOrMark};
 
 use crate::digits::read_number;
 use crate::range::{look_at, look_at_repeat};
@@ -109,6 +111,28 @@ fn read_f(
     })
 }
 
+// The item that begins at `from` with the digits m, if any, and then T: no digit may stand before it, and a column has to follow.
+fn read_t(
+    text: &[u8],
+    from: usize,
+    m: Number,
+    outside: &mut Option<usize>,
+) -> Result<Single, Ungrammatical>
+    requires number_found { NumberFound text.now from m.value m.next }
+    requires at_t { (m.next < length text.now) × (get_or text.now m.next 0 ≡ letter_t) }
+    ensures { (o : Option ℕ) → outside.old ≡ outside_after o (repeat_numbers (number_at from m.value)) → item_read text.now from (wanted from) [] (from + 1) o outside.new result }
+{
+    let at = m.next;
+    if m.value.is_some() {
+        return Err(Ungrammatical { place: at });
+    }
+    let column = read_one(text, at + 1, LARGEST_COUNT, outside)?;
+    let word = Word::T {
+        column: column.value,
+    };
+    Ok(column.single(word, 1))
+}
+
 // What S goes on with: another letter, or nothing.
 fn read_setting(text: &[u8], at: usize) -> Single
     requires { at ≤ length text.now }
@@ -146,18 +170,7 @@ pub fn read_single(
             Ok(width.single(Word::L { width: width.value }, repeat))
         }
         b'A' => Ok(read_a(text, at + 1, repeat, outside)),
-        b'T' => {
-            if m.value.is_some() {
-                return Err(Ungrammatical { place: at });
-            }
-            let column = read_one(text, at + 1, LARGEST_COUNT, outside)?;
-            Ok(column.single(
-                Word::T {
-                    column: column.value,
-                },
-                1,
-            ))
-        }
+        b'T' => read_t(text, from, m, outside),
         b'X' => {
             let count = m.value.ok_or(Ungrammatical { place: at })?;
             Ok(Single {

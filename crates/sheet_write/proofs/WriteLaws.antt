@@ -1,6 +1,6 @@
 -- What the inner functions of writing do, from what their callees say.
 -- Assumes nothing.
-use Rattle.std.proofs.Common.{◌≡◌, refl, ap, subst, ◌∙◌, false, List, map, ℕ, ◌+◌, ◌*◌, ◌/◌, ◌≤◌, length, replicate, take, arith}
+use Rattle.std.proofs.Common.{◌≡◌, refl, ap, subst, ◌∙◌, false, List, map, ℕ, ◌*◌, ◌/◌, ◌≤◌, length, replicate, take, arith}
 use Rattle.std.specs.List.{All}
 use Rattle.std.specs.Prelude.{Some, IfSome, Result, Ok, Err}
 use native.Mathlib.Nat.{mul-le-mul_right}
@@ -16,7 +16,7 @@ use Rattle.list_elements.specs.declared.BadElement.{BadElement}
 use Rattle.list_elements.specs.declared.Value.{Value}
 use Rattle.list_elements.specs.declared.listed.Listed.{Listed}
 use Rattle.sheet_walk.specs.Answers.{Answer}
-use Rattle.sheet_walk.specs.Walk.{Sheet, sheet, Trace, done, walk}
+use Rattle.sheet_walk.specs.Walk.{Sheet, sheet, done, walk}
 use Rattle.sheet_walk.specs.Laid.{laid, blanked, written}
 use Rattle.sheet_walk.specs.Given.{run_sheet, given_sheet, records_of}
 use Rattle.sheet_walk.specs.declared.Refusal.{Refusal}
@@ -32,10 +32,10 @@ use Rattle.sheet_rows.specs.Rows.{format_row, element_row, rows_before}
 use Rattle.sheet_rows.proofs.RowLaws as row
 use Rattle.list_elements.proofs.ContentLaws.{kinds_are}
 use Rattle.sheet_rows.proofs.Loads.{run_sheet_is}
-use Rattle.write_passes.specs.Placed.{characters, starred_in, Judged, accepted, refused, judged}
+use Rattle.write_passes.specs.Placed.{starred_in, Judged, accepted, refused, judged}
 use Rattle.write_passes.specs.declared.Sheet as code
 use Rattle.write_passes.specs.declared.checking.Checked.{Checked}
-use Rattle.write_passes.specs.Passes.{values_of, walk_of, BeginsIn, SomeSmallBegins, WholeIn, CheckedAs, sp_among, IsPlain}
+use Rattle.write_passes.specs.Passes.{values_of, walk_of, SomeSmallBegins, WholeIn, CheckedAs, sp_among, IsPlain, StarsLaid, laid_in, BytesLaid}
 use Rattle.write_passes.proofs.LayLaws.{columns_plain}
 use Rattle.write_passes.proofs.PlacedLaws.{judged_ends}
 use Rattle.sheet_write.specs.Writing.{walked, writing_of}
@@ -62,7 +62,7 @@ module _ (s : code.Sheet) {n : ℕ} (a : judged (values_of s) (walk_of s) ≡ ac
       omega (arith, mul-le-mul_right s.records.width m)
 
   pub wrote_accepted : {starred : ℕ} {before blank after : List ℕ} → blank ≡ splice before 0 (replicate (n * s.records.width) 32)
-      → starred ≡ starred_in (values_of s) (walk_of s) → after ≡ laid s.records.width (characters s.list.area.now (values_of s)) (walk_of s) blank
+      → starred ≡ starred_in (values_of s) (walk_of s) → after ≡ laid_in s (walk_of s) blank
       → Wrote s.records.width s.list.area.now (values_of s) before (walked (values_of s) (walk_of s)) (Ok (record { records = n; starred = starred })) after
   unfolding written blanked
   wrote_accepted b t e = rw a (record { answers = rw t; bytes = rw (← b) e })
@@ -75,14 +75,11 @@ module _ (s : code.Sheet) {n : ℕ} (a : judged (values_of s) (walk_of s) ≡ ac
     pub whole_plain : sp_among s.run.words.now ≡ false → All IsPlain (take count covers)
     whole_plain e = columns_plain s e (λ p i. i) w.begins
 
-    pub whole_stars : {starred : ℕ} → ((taken : ℕ) (whole left : Trace) → BeginsIn s 0 (take count covers) whole taken left → starred + starred_in (values_of s) left ≡ starred_in (values_of s) whole)
-        → starred ≡ starred_in (values_of s) (walk_of s)
+    pub whole_stars : {starred : ℕ} → StarsLaid s 0 (take count covers) starred → starred ≡ starred_in (values_of s) (walk_of s)
     unfolding starred_in
     whole_stars f = let k = f w.taken (walk_of s) (done n) w.begins in omega arith
 
-    pub whole_bytes : (blank : List ℕ) {after : List ℕ} → ((taken : ℕ) (whole left : Trace) → BeginsIn s 0 (take count covers) whole taken left
-        → laid s.records.width (characters s.list.area.now (values_of s)) left after ≡ laid s.records.width (characters s.list.area.now (values_of s)) whole blank)
-        → after ≡ laid s.records.width (characters s.list.area.now (values_of s)) (walk_of s) blank
+    pub whole_bytes : (blank : List ℕ) {after : List ℕ} → BytesLaid s 0 (take count covers) blank after → after ≡ laid_in s (walk_of s) blank
     unfolding laid
     whole_bytes blank f = f w.taken (walk_of s) (done n) w.begins
 

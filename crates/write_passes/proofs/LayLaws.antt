@@ -38,7 +38,7 @@ use Rattle.sheet_walk.proofs.Parts.{First, PlacedIn, placed_in, stops_ends, stop
 use Rattle.sheet_walk.proofs.OneByOne.{cover_at, begins_at, begins_end, FieldAt, as_field, as_literal, takes_one, takes_none}
 use Rattle.write_passes.specs.declared.Sheet as code
 use Rattle.write_passes.specs.Placed.{field_characters, field_starred, field_too_large, value_at, characters_of, characters, starred_of, starred_in, accepted, judged}
-use Rattle.write_passes.specs.Passes.{values_of, walk_of, BeginsIn, SomeSmallBegins, word_is_sp, sp_among, IsPlain}
+use Rattle.write_passes.specs.Passes.{values_of, walk_of, BeginsIn, SomeSmallBegins, word_is_sp, sp_among, IsPlain, StarsLaid, laid_in, BytesLaid}
 use Rattle.write_passes.proofs.PlacedLaws.{judged_ends, judged_rest, not_refused}
 use Rattle.write_passes.proofs.CheckLaws.{element_value, value_is, judged_field}
 
@@ -89,7 +89,7 @@ module _ (R : ℕ) (area : List ℕ) (vs : List Value) (p : Placement) (rest : T
 pub record Laying (s : code.Sheet) (covers : List Cover) (was : List ℕ) (k taken starred : ℕ) (buffer : List ℕ) (whole : Trace) (j : ℕ) (left : Trace) : Type 0 where
   pub now : Trace
   pub begins : BeginsIn s taken (drop k covers) now j left
-  pub bytes : laid s.records.width (characters s.list.area.now (values_of s)) now buffer ≡ laid s.records.width (characters s.list.area.now (values_of s)) whole was
+  pub bytes : laid_in s now buffer ≡ laid_in s whole was
   pub stars : starred + starred_in (values_of s) now ≡ starred_in (values_of s) whole
   pub accepts : {n : ℕ} → judged (values_of s) whole ≡ accepted n → judged (values_of s) now ≡ accepted n
 
@@ -127,7 +127,7 @@ module _ (s : code.Sheet) (covers : List Cover) {was : List ℕ} {k taken starre
         bytes =
             let v = o ∙ ap (λ v. splice buffer c.at (field_characters s.list.area.now c.settings f.f (columns_in c.word) v)) (sym (value_is s f)) in
             sym (laid_more s.records.width s.list.area.now (values_of s) at.placement at.after what f.is at.is.width at.is.settings buffer at.is.at v)
-            ∙ ap (λ t. laid s.records.width (characters s.list.area.now (values_of s)) t buffer) (sym at.is_put)
+            ∙ ap (λ t. laid_in s t buffer) (sym at.is_put)
             ∙ g.bytes;
         stars =
             let v = q ∙ ap (field_starred c.settings f.f (columns_in c.word)) (sym (value_is s f)) in
@@ -149,7 +149,7 @@ module _ (s : code.Sheet) (covers : List Cover) {was : List ℕ} {k taken starre
         begins = subst (λ (n : ℕ). BeginsIn s n (drop (k + 1) covers) at.after j left) (ap (λ n. taken + n) (takes_none c.word e) ∙ omega arith) at.rest;
         bytes =
             sym (laid_more s.records.width s.list.area.now (values_of s) at.placement at.after what f.is at.is.width at.is.settings buffer at.is.at o)
-            ∙ ap (λ t. laid s.records.width (characters s.list.area.now (values_of s)) t buffer) (sym at.is_put)
+            ∙ ap (λ t. laid_in s t buffer) (sym at.is_put)
             ∙ g.bytes;
         stars =
             let h = stars_more s.records.width s.list.area.now (values_of s) at.placement at.after what f.is at.is.width at.is.settings {b = false} refl in
@@ -161,8 +161,8 @@ module _ (s : code.Sheet) (covers : List Cover) {was : List ℕ} {k taken starre
 -- after the last columns
 module _ (s : code.Sheet) (covers : List Cover) {was : List ℕ} {k taken starred j : ℕ} {buffer : List ℕ} {whole left : Trace} (l : length covers ≤ k)
     (g : Laying s covers was k taken starred buffer whole j left) where
-  pub laid_bytes : laid s.records.width (characters s.list.area.now (values_of s)) left buffer ≡ laid s.records.width (characters s.list.area.now (values_of s)) whole was
-  laid_bytes = ap (λ t. laid s.records.width (characters s.list.area.now (values_of s)) t buffer) (sym (begins_end covers k g.begins l).0) ∙ g.bytes
+  pub laid_bytes : laid_in s left buffer ≡ laid_in s whole was
+  laid_bytes = ap (λ t. laid_in s t buffer) (sym (begins_end covers k g.begins l).0) ∙ g.bytes
 
   pub laid_stars : starred + starred_in (values_of s) left ≡ starred_in (values_of s) whole
   laid_stars = ap (λ t. starred + starred_in (values_of s) t) (sym (begins_end covers k g.begins l).0) ∙ g.stars
@@ -218,7 +218,7 @@ pub record LayingOn (s : code.Sheet) (was : List ℕ) (w : Walk) (starred : ℕ)
   pub within : (p : Placement) → In p (left_of w) → In p (walk_of s)
   pub n : ℕ
   pub accepts : judged (values_of s) (left_of w) ≡ accepted n
-  pub bytes : laid s.records.width (characters s.list.area.now (values_of s)) (left_of w) buffer ≡ laid s.records.width (characters s.list.area.now (values_of s)) (walk_of s) was
+  pub bytes : laid_in s (left_of w) buffer ≡ laid_in s (walk_of s) was
   pub stars : starred + starred_in (values_of s) (left_of w) ≡ starred_in (values_of s) (walk_of s)
 
 module _ (s : code.Sheet) {was : List ℕ} {w : Walk} {starred : ℕ} {buffer : List ℕ} (g : LayingOn s was w starred buffer) {v : Walk} {p : Placed} {covers : List Cover} (as_placed : PlacedAs w v p covers) where
@@ -236,13 +236,11 @@ module _ (s : code.Sheet) {was : List ℕ} {w : Walk} {starred : ℕ} {buffer : 
     part_begins = record { whole = left_of w; taken = part.taken; left = part.left; begins = begins; n = g.n; accepts = g.accepts }
 
     module _ (more : ℕ) (out : List ℕ)
-        (stars : (taken : ℕ) (whole left : Trace) → BeginsIn s first (take p.count covers) whole taken left → more + starred_in (values_of s) left ≡ starred_in (values_of s) whole)
-        (bytes : (taken : ℕ) (whole left : Trace) → BeginsIn s first (take p.count covers) whole taken left
-        → laid s.records.width (characters s.list.area.now (values_of s)) left out ≡ laid s.records.width (characters s.list.area.now (values_of s)) whole buffer) where
+        (stars : StarsLaid s first (take p.count covers) more) (bytes : BytesLaid s first (take p.count covers) buffer out) where
       left_stars : starred + more + starred_in (values_of s) part.left ≡ starred_in (values_of s) (walk_of s)
       left_stars = let k = stars part.taken (left_of w) part.left begins in omega (arith, k, g.stars)
 
-      left_bytes : laid s.records.width (characters s.list.area.now (values_of s)) part.left out ≡ laid s.records.width (characters s.list.area.now (values_of s)) (walk_of s) was
+      left_bytes : laid_in s part.left out ≡ laid_in s (walk_of s) was
       left_bytes = bytes part.taken (left_of w) part.left begins ∙ g.bytes
 
       -- no more than there are elements
@@ -259,22 +257,22 @@ module _ (s : code.Sheet) {was : List ℕ} {w : Walk} {starred : ℕ} {buffer : 
             within = λ q i. g.within q (in_left part.begins (subst (In q) (sym o.is_left) i));
             n = g.n;
             accepts = ap (judged (values_of s)) (sym o.is_left) ∙ left_accepted (values_of s) part.begins g.accepts;
-            bytes = ap (λ t. laid s.records.width (characters s.list.area.now (values_of s)) t out) (sym o.is_left) ∙ left_bytes;
+            bytes = ap (λ t. laid_in s t out) (sym o.is_left) ∙ left_bytes;
             stars = ap (λ t. starred + more + starred_in (values_of s) t) (sym o.is_left) ∙ left_stars;
           }
 
       -- where nothing is left
-      pub all_laid : (p.stop ≡ stop.Full → ⊥) → (starred + more ≡ starred_in (values_of s) (walk_of s)) × (out ≡ laid s.records.width (characters s.list.area.now (values_of s)) (walk_of s) was)
+      pub all_laid : (p.stop ≡ stop.Full → ⊥) → (starred + more ≡ starred_in (values_of s) (walk_of s)) × (out ≡ laid_in s (walk_of s) was)
       unfolding laid starred_in
       all_laid u = go p.stop refl
         where
-          go : (k : Stop) → p.stop ≡ k → (starred + more ≡ starred_in (values_of s) (walk_of s)) × (out ≡ laid s.records.width (characters s.list.area.now (values_of s)) (walk_of s) was)
+          go : (k : Stop) → p.stop ≡ k → (starred + more ≡ starred_in (values_of s) (walk_of s)) × (out ≡ laid_in s (walk_of s) was)
           go (stop.Ends n) e =
               let k = stops_ends part e in
               let i = ap (starred_in (values_of s)) k in
-              (omega (arith, left_stars, i), sym (ap (λ t. laid s.records.width (characters s.list.area.now (values_of s)) t out) k) ∙ left_bytes)
+              (omega (arith, left_stars, i), sym (ap (λ t. laid_in s t out) k) ∙ left_bytes)
           go (stop.Refused why) e =
               let k = stops_refused part e in
               let i = ap (starred_in (values_of s)) k in
-              (omega (arith, left_stars, i), sym (ap (λ t. laid s.records.width (characters s.list.area.now (values_of s)) t out) k) ∙ left_bytes)
+              (omega (arith, left_stars, i), sym (ap (λ t. laid_in s t out) k) ∙ left_bytes)
           go stop.Full e = absurd (u e)

@@ -1,7 +1,7 @@
 -- What the passes of writing over the walk are given and answer. (Nothing here need be believed: the public call's contract does
 -- not speak of it.)
 -- Assumes nothing.
-use Rattle.std.specs.Prelude.{◌≡◌, Bool, false, true, List, ℕ, ◌≤◌, Option, Some, None, IfSome, Result, Ok, Err, length, take}
+use Rattle.std.specs.Prelude.{◌≡◌, Bool, false, true, List, ℕ, ◌+◌, ◌≤◌, Option, Some, None, IfSome, Result, Ok, Err, length, take}
 use Rattle.std.specs.List.{list_any}
 use Rattle.settings.specs.Settings.{start_settings}
 use Rattle.settings.specs.declared.SettingItem.TheVariants.{SP, SS, S}
@@ -17,6 +17,7 @@ use Rattle.list_elements.specs.Checked.{values_in}
 use Rattle.list_elements.specs.declared.Value.{Value}
 use Rattle.sheet_walk.specs.Steps.{suits}
 use Rattle.sheet_walk.specs.Walk.{Trace, done, walk}
+use Rattle.sheet_walk.specs.Laid.{laid}
 use Rattle.sheet_walk.specs.Given.{given_sheet, PlacesAre}
 use Rattle.sheet_walk.specs.Followed.{Begins}
 use Rattle.sheet_walk.specs.declared.Cover.{Cover}
@@ -24,7 +25,7 @@ use Rattle.sheet_walk.specs.declared.Refusal.{Refusal}
 use Rattle.sheet_walk.specs.declared.Refusal.TheVariants.{TooLarge}
 use Rattle.write_passes.specs.declared.Sheet.{Sheet}
 use Rattle.write_passes.specs.declared.checking.Checked.{Checked}
-use Rattle.write_passes.specs.Placed.{field_too_large, Judged, accepted, refused, judged}
+use Rattle.write_passes.specs.Placed.{characters, starred_in, field_too_large, Judged, accepted, refused, judged}
 
 -- ---- a field, of which the code keeps the places after its point alone
 
@@ -71,6 +72,21 @@ pub record SomeSmallBegins (s : Sheet) (first : ℕ) (cs : List Cover) : Type 0 
   pub begins : BeginsIn s first cs whole taken left
   pub n : ℕ
   pub accepts : judged (values_of s) whole ≡ accepted n
+
+-- ---- laying
+
+-- where so many fields of these columns are starred: the stars of what is left of a walk that begins with them make up those of the whole
+abbrev pub StarsLaid : Sheet → ℕ → List Cover → ℕ → Type 0
+StarsLaid s first cs starred = (taken : ℕ) (whole left : Trace) → BeginsIn s first cs whole taken left → starred + starred_in (values_of s) left ≡ starred_in (values_of s) whole
+
+-- a walk laid in a buffer
+abbrev pub laid_in : Sheet → Trace → List ℕ → List ℕ
+laid_in s t buffer = laid s.records.width (characters s.list.area.now (values_of s)) t buffer
+
+-- what covers these columns was laid: what is left of a walk that begins with them, laid in the buffer as it is, gives what the whole
+-- gives in the buffer as it was
+abbrev pub BytesLaid : Sheet → ℕ → List Cover → List ℕ → List ℕ → Type 0
+BytesLaid s first cs was now = (taken : ℕ) (whole left : Trace) → BeginsIn s first cs whole taken left → laid_in s left now ≡ laid_in s whole was
 
 -- the walk is accepted with the values, for some number of records
 pub record SomeAccepted (s : Sheet) : Type 0 where

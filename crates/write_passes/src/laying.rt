@@ -1,10 +1,8 @@
 // What covers columns, laid in the records, for a walk that was accepted.
-ghost use Rattle.std.specs.Prelude.{◌≡◌, false, ℕ, ◌+◌, ◌*◌, ◌≤◌, length, All};
+ghost use Rattle.std.specs.Prelude.{◌≡◌, false, ◌*◌, ◌≤◌, length, All};
 ghost use Rattle.settings.specs.Settings.{start_settings};
-ghost use Rattle.sheet_walk.specs.Walk.{Trace};
-ghost use Rattle.sheet_walk.specs.Laid.{laid};
-ghost use Rattle.write_passes.specs.Placed.{characters, starred_in};
-ghost use Rattle.write_passes.specs.Passes.{values_of, walk_of, BeginsIn, SomeSmallBegins, SomeAccepted, IsPlain};
+ghost use Rattle.write_passes.specs.Placed.{starred_in};
+ghost use Rattle.write_passes.specs.Passes.{values_of, walk_of, SomeSmallBegins, SomeAccepted, IsPlain, StarsLaid, laid_in, BytesLaid};
 
 use crate::fields::{put, put_literal};
 use crate::{Sheet, has_sp};
@@ -40,8 +38,8 @@ fn lay_under<const SP: bool>(
     requires begins { SomeSmallBegins sheet first covers.now }
     requires plain { SP ≡ false → All IsPlain covers.now }
     ensures few { result ≤ length covers.now }
-    ensures stars { (taken : ℕ) (whole left : Trace) → BeginsIn sheet.entry first covers.now whole taken left → result + starred_in (values_of sheet.entry) left ≡ starred_in (values_of sheet.entry) whole }
-    ensures bytes { (taken : ℕ) (whole left : Trace) → BeginsIn sheet.entry first covers.now whole taken left → laid sheet.entry.records.width (characters sheet.entry.list.area.now (values_of sheet.entry)) left buffer.new ≡ laid sheet.entry.records.width (characters sheet.entry.list.area.now (values_of sheet.entry)) whole buffer.old }
+    ensures stars { StarsLaid sheet.entry first covers.now result }
+    ensures bytes { BytesLaid sheet.entry first covers.now buffer.old buffer.new }
 {
     let mut starred: usize = 0;
     let mut taken = first;
@@ -72,8 +70,8 @@ pub fn lay(buffer: &mut [u8], covers: &[Cover], first: usize, sp: bool, sheet: S
     requires begins { SomeSmallBegins sheet first covers.now }
     requires plain { sp ≡ false → All IsPlain covers.now }
     ensures few { result ≤ length covers.now }
-    ensures stars { (taken : ℕ) (whole left : Trace) → BeginsIn sheet.entry first covers.now whole taken left → result + starred_in (values_of sheet.entry) left ≡ starred_in (values_of sheet.entry) whole }
-    ensures bytes { (taken : ℕ) (whole left : Trace) → BeginsIn sheet.entry first covers.now whole taken left → laid sheet.entry.records.width (characters sheet.entry.list.area.now (values_of sheet.entry)) left buffer.new ≡ laid sheet.entry.records.width (characters sheet.entry.list.area.now (values_of sheet.entry)) whole buffer.old }
+    ensures stars { StarsLaid sheet.entry first covers.now result }
+    ensures bytes { BytesLaid sheet.entry first covers.now buffer.old buffer.new }
 {
     if sp {
         return lay_under::<true>(buffer, covers, first, sheet);
@@ -87,7 +85,7 @@ pub fn lay_pass(buffer: &mut [u8], sheet: Sheet<'_>, covers: &mut [Cover]) -> us
     requires room { sheet.records.count * sheet.records.width ≤ length buffer.old }
     requires accepts { SomeAccepted sheet }
     ensures stars { result ≡ starred_in (values_of sheet.entry) (walk_of sheet.entry) }
-    ensures bytes { buffer.new ≡ laid sheet.entry.records.width (characters sheet.entry.list.area.now (values_of sheet.entry)) (walk_of sheet.entry) buffer.old }
+    ensures bytes { buffer.new ≡ laid_in sheet.entry (walk_of sheet.entry) buffer.old }
 {
     let mut starred: usize = 0;
     let sp = has_sp(sheet.run.words);

@@ -5,7 +5,7 @@ use Rattle.std.specs.Prelude.{Ok}
 use Rattle.format_grammar.specs.Reading.{Use, Mode}
 use Rattle.format_read.specs.Steps.{number_at}
 use Rattle.format_read.proofs.SingleSteps.{times_at, passed_on, absent, ends-I, ends-L}
-use Rattle.format_read.proofs.BegunSteps.{begun_read, begun_stuck, begun_other, slash_read, X-read, letter_missing, letter_read, after_digits, T-missing, T-read}
+use Rattle.format_read.proofs.BegunSteps.{begun_read, begun_stuck, begun_other, slash_read, X-read, letter_missing, letter_read}
 use Rattle.format_read.proofs.singles.read_single.Goals as goal
 
 pub returns-in-70 : goal.returns-in-70
@@ -19,9 +19,6 @@ returns-in-65 c =
     let k = number_at c.args.from c.args.m.value in
     begun_read c.requires.number_found c.requires.at_in_bounds.0 (Mode.digits (Use.width_a k) (c.args.m.next + 1) 0) (λ l xs q. rw c.in-65.is) _ _ _ c.look_at_repeat.ensures (Ok c.read_a.result)
     (c.read_a.ensures k (times_at c.args.from c.args.m.value ∙ sym c.unwrap_or-repeat.ensures))
-
-pub returns-then-is_some : goal.returns-then-is_some
-returns-then-is_some c = after_digits c.requires.number_found c.requires.at_in_bounds.0 (sym c.if-is_some.ensures) (λ n l xs q. rw c.in-84.is)
 
 pub returns-in_err-count-in-88 : goal.returns-in_err-count-in-88
 returns-in_err-count-in-88 c =
@@ -67,19 +64,12 @@ returns-in_ok-width-in-76 c =
     (letter_read c.requires.number_found c.requires.at_in_bounds.0 refl (ends-L k) (λ l xs q. rw c.in-76.is) c.args.outside.now _ _ c.look_at_repeat.ensures c.in_ok-width-in-76.ensures _
     (times_at c.args.from c.args.m.value ∙ sym c.unwrap_or-repeat.ensures))
 
-pub returns-in_err-column-in-84 : goal.returns-in_err-column-in-84
-returns-in_err-column-in-84 c =
-    rw (passed_on c.from_residual-in_err-column-in-84.ensures.1)
-    (T-missing c.requires.number_found c.requires.at_in_bounds.0 c.in-84.is (sym c.if-is_some.ensures) c.in_err-column-in-84.ensures c.args.outside.now)
-
-pub returns-in_ok-column-in-84 : goal.returns-in_ok-column-in-84
-returns-in_ok-column-in-84 c =
-    rw c.single-in-84.ensures
-    (T-read c.requires.number_found c.requires.at_in_bounds.0 c.in-84.is (sym c.if-is_some.ensures) c.args.outside.now _ _ c.look_at_repeat.ensures c.in_ok-column-in-84.ensures)
-
 pub returns-in-None : goal.returns-in-None
 returns-in-None c =
     begun_read (rw c.in-None.is at c.requires.number_found) c.requires.at_in_bounds.0 Mode.letter (λ l xs q. rw c.in-83.is) _ _ _ (rw c.in-None.is at c.look_at_repeat.ensures) (Ok c.read_setting.result) (c.read_setting.ensures _)
 
 pub returns-in-Some : goal.returns-in-Some
 returns-in-Some c = begun_stuck (rw c.in-Some.is at c.requires.number_found) c.requires.at_in_bounds.0 (λ l xs q. rw c.in-83.is)
+
+pub returns-in-84 : goal.returns-in-84
+returns-in-84 c = c.read_t.ensures _ c.look_at_repeat.ensures

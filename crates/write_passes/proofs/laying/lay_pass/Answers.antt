@@ -1,9 +1,8 @@
 use Rattle.std.proofs.Common.{refl, sym, subst, ap, ◌∙◌, arith, rules}
 use Rattle.sheet_walk.proofs.Parts.{fewer_left}
 use Rattle.sheet_walk.specs.Columns.{In}
-use Rattle.sheet_walk.specs.Laid.{laid}
-use Rattle.write_passes.specs.Placed.{characters, starred_in, judged}
-use Rattle.write_passes.specs.Passes.{values_of}
+use Rattle.write_passes.specs.Placed.{starred_in, judged}
+use Rattle.write_passes.specs.Passes.{values_of, laid_in}
 use Rattle.write_passes.proofs.LayLaws.{part, part_begins, part_plain, few_so_far, goes_on_laying, all_laid}
 use Rattle.write_passes.proofs.laying.lay_pass.Goals as goal
 
@@ -18,7 +17,7 @@ loop-init c =
         within = λ p i. subst (In p) e i;
         n = c.requires.accepts.n;
         accepts = ap (judged (values_of s)) e ∙ c.requires.accepts.accepts;
-        bytes = ap (λ t. laid s.records.width (characters s.list.area.now (values_of s)) t c.args.buffer.now) e;
+        bytes = ap (λ t. laid_in s t c.args.buffer.now) e;
         stars = let k = ap (starred_in (values_of s)) e in omega arith;
       },
     )
