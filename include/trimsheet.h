@@ -2,7 +2,7 @@
  * Trim sheets by FORTRAN format: the calls for a console host, for C99, C11 and C++.
  *
  * Link with libconsole.a: cc -I<this folder> host.c libconsole.a. It is for x86-64 Linux, on processors of level x86-64-v2 or later, and
- * needs memcpy, memmove and memset of the C library, and nothing else.
+ * needs memcpy and memset of the C library, and nothing else.
  *
  * Threads. No global state and no heap: calls may be made from several threads at once on separate buffers, each with `records` of
  * its own. A format or a list text may be shared, as long as nothing writes to it.

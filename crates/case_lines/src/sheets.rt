@@ -1,10 +1,9 @@
 // The lines of a case that has a sheet.
 ghost use Rattle.std.specs.Prelude.{◌≤◌, length};
-ghost use Rattle.std.specs.Slice.Iter.{iter_rest};
 
 use crate::elements::add_line;
+use crate::lines::Lines;
 use list_elements::List;
-use std::slice::Iter;
 
 // A case: its first line, the format, a line of bytes, and the list.
 #[derive(Clone, Copy, PartialEq, Eq, Debug)]
@@ -16,22 +15,18 @@ pub struct Sheet<'a> {
 }
 
 // The next line; an empty one where there is none.
-fn next_line<'a>(lines: &mut Iter<'a, Vec<u8>>) -> &'a [u8]
-    ensures { length (iter_rest lines.new) ≤ length (iter_rest lines.old) }
+fn next_line<'a>(lines: &mut Lines<'a>) -> &'a [u8]
+    ensures { length lines.new.rest.now ≤ length lines.old.rest.now }
 {
-    match lines.next() {
-        Some(line) => line.as_slice(),
-        None => &[],
-    }
+    lines.next_line().unwrap_or(&[])
 }
 
-// The list of the next lines, up to one with a period. By `next`, as a `for` over borrowed lines would leave open how many are
-// left.
-fn next_list(lines: &mut Iter<'_, Vec<u8>>) -> List
-    ensures { length (iter_rest lines.new) ≤ length (iter_rest lines.old) }
+// The list of the next lines, up to one with a period.
+fn next_list(lines: &mut Lines<'_>) -> List
+    ensures { length lines.new.rest.now ≤ length lines.old.rest.now }
 {
     let mut list = List::empty();
-    while let Some(line) = lines.next() {
+    while let Some(line) = lines.next_line() {
         if line.starts_with(b".") {
             break;
         }
@@ -42,8 +37,8 @@ fn next_list(lines: &mut Iter<'_, Vec<u8>>) -> List
 
 impl<'a> Sheet<'a> {
     // The case of a first line and the lines after it.
-    pub fn new(head: &'a [u8], lines: &mut Iter<'a, Vec<u8>>) -> Self
-        ensures { length (iter_rest lines.new) ≤ length (iter_rest lines.old) }
+    pub fn new(head: &'a [u8], lines: &mut Lines<'a>) -> Self
+        ensures { length lines.new.rest.now ≤ length lines.old.rest.now }
     {
         Sheet {
             head,

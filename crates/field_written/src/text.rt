@@ -3,6 +3,7 @@ ghost use Rattle.std.specs.Prelude.{◌≡◌, length};
 ghost use Rattle.field_written.specs.TextField.{text_field};
 
 use crate::blanks::fill_blanks;
+use buffer::copying::copy;
 
 // The text under Aw, w the columns of the part.
 #[tactic(auto, unfolding(crate::specs::TextField::text_field))]
@@ -14,8 +15,8 @@ pub fn write_text(part: &mut [u8], text: &[u8])
     if text.len() <= width {
         let (blanks, shown) = part.split_at_mut(width - text.len());
         fill_blanks(blanks);
-        shown.copy_from_slice(text);
+        copy(shown, text);
         return;
     }
-    part.copy_from_slice(&text[..width]);
+    copy(part, &text[..width]);
 }

@@ -5,7 +5,7 @@
 mod answers;
 mod runs;
 
-use case_lines::lines::input_lines;
+use case_lines::lines::{Lines, input_bytes};
 use std::io;
 
 // One line.
@@ -17,8 +17,10 @@ fn show_line(rt: &impl Print, line: &[u8]) -> io::Result<()> {
 }
 
 fn main(rt: HostRuntime) -> io::Result<()> {
-    for line in input_lines(&rt)? {
-        show_line(&rt, line.as_slice())?;
+    let input = input_bytes(&rt)?;
+    let mut lines = Lines { rest: &input };
+    while let Some(line) = lines.next_line() {
+        show_line(&rt, line)?;
     }
     answers::show_check(&rt, b"(I4\n)")?;
     answers::show_check(&rt, b"('A\nB')")

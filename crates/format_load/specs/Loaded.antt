@@ -1,13 +1,16 @@
 -- A format loaded: what its run of words means.
 -- Assumes nothing.
-use Rattle.std.specs.Prelude.{◌≡◌, List, map, ℕ, ◌≤◌, length, drop, Result, Ok, Err}
+use Rattle.std.specs.Prelude.{◌≡◌, List, map, ℕ, ◌≤◌, length, take, drop, Result, Ok, Err}
 use Rattle.format_items.specs.Items.{Items}
 use Rattle.format_items.specs.Met.{met, return_part}
+use Rattle.format_items.specs.MetRanges.{AllMetWithin}
 use Rattle.format_items.specs.Size.{largest_size}
 use Rattle.format_grammar.specs.Check.{accepted, refused, outcome}
 use Rattle.format_items.specs.Refusals.{longest_format}
-use Rattle.format_words.specs.Words.{met_in}
+use Rattle.format_words.specs.Words.{met_in, RunWords}
+use Rattle.format_words.specs.declared.packed.Packed.{Packed}
 use Rattle.format_words.specs.declared.run.Run.{Run}
+use Rattle.format_run.specs.declared.unroll.Unrolled.{Unrolled}
 use Rattle.format_load.specs.declared.LoadError.{LoadError}
 use Rattle.format_load.specs.declared.LoadError.TheVariants.{Refused, TooSmall}
 
@@ -25,3 +28,18 @@ abbrev pub loaded : List ℕ → ℕ → ℕ → ℕ → Result Run LoadError �
 loaded format e c n (Err (Refused why)) = outcome format ≡ refused why
 loaded format e c n (Err TooSmall) = longest_format ≤ e → longest_format ≤ c → largest_size ≤ n → ⊥
 loaded format e c n (Ok r) = RunHeld format r × (length r.words.now ≤ n) × (length r.chars.now ≡ c)
+
+-- the same of a run that stands in an array, the characters of its literals being in another
+pub record RunIn (format chars : List ℕ) (words : List Packed) (back : ℕ) : Type 0 where
+  pub items : Items
+  pub accepts : outcome format ≡ accepted items
+  pub sound : RunWords (length chars) words
+  pub mean : map (met_in chars) words ≡ met items
+  pub within : AllMetWithin (map (met_in chars) words)
+  pub return_to : drop back (map (met_in chars) words) ≡ met (return_part items)
+
+-- the refusal, or that the arrays are too small, as before; or the run, which is the first words of `run`
+abbrev pub loaded_into : List ℕ → ℕ → ℕ → ℕ → List ℕ → List Packed → Result Unrolled LoadError → Type 0
+loaded_into format e c n chars run (Err (Refused why)) = outcome format ≡ refused why
+loaded_into format e c n chars run (Err TooSmall) = longest_format ≤ e → longest_format ≤ c → largest_size ≤ n → ⊥
+loaded_into format e c n chars run (Ok u) = (u.end ≤ length run) × RunIn format chars (take u.end run) u.back

@@ -16,13 +16,17 @@ use list_elements::{BadElement, Element, List};
 const LONGEST_LINE: usize = 2 + LONGEST;
 
 // The line from this offset on, of which at most LONGEST_LINE + 1 bytes are looked at: one longer than LONGEST_LINE is outside
-// the limits, whatever it holds. (A plain offset, as the place of a text is counted from the start.)
+// the limits, whatever it holds. (A plain offset, as the place of a text is counted from the start. Two slices, since the compiler
+// unrolls the search through one of a length that it knows.)
 fn line_from(text: &[u8], at: usize) -> &[u8]
     requires { at ≤ length text.now }
     ensures { result.now ≡ first_line (take (longest_line + 1) (drop at text.now)) }
 {
     let rest = &text[at..];
-    first_line(&rest[..rest.len().min(LONGEST_LINE + 1)])
+    if rest.len() <= LONGEST_LINE {
+        return first_line(rest);
+    }
+    first_line(&rest[..LONGEST_LINE + 1])
 }
 
 // The list of a list text, its texts as places in the text itself; or refusal 6. Any bytes. (A `while` and no `split`, which

@@ -1,6 +1,6 @@
 -- What is gathered on a walk: accepted where it ends and every field gives something, and refused else.
 -- Assumes nothing.
-use mathlib.Core.Path.{◌≡◌, refl, sym, ◌∙◌}
+use mathlib.Core.Path.{◌≡◌, refl, sym, subst, ◌∙◌}
 use mathlib.Core.List.{List, [], ◌∷◌}
 use Prim.Native.Nat.{ℕ}
 use native.Mathlib.Omega.{arith}
@@ -99,6 +99,12 @@ module _ (R : ℕ) (kinds : List Kind) (records : List ℕ) where
   told (done n) = Told.accepts Gathers.ends
   told (stopped why) = Told.refuses Refuses.stops
 
+  pub gathered_gathers : (t : Trace) {cs : List Content} {n : ℕ} → gathered R kinds records t ≡ accepted cs n → Gathers R kinds records t cs n
+  gathered_gathers t e = go (subst (Told R kinds records t) e (told t))
+    where
+      go : {cs : List Content} {n : ℕ} → Told R kinds records t (accepted cs n) → Gathers R kinds records t cs n
+      go (Told.accepts a) = a
+
   -- what is refused after a placement that is readable is refused with it
   past_refused : (p : Placement) (why : Refusal) → Readable R kinds records p → what_gathered R kinds records p p.what (refused why) ≡ refused why
   past_refused p why r = go p.what refl
@@ -162,3 +168,9 @@ module _ {R : ℕ} {kinds : List Kind} {records : List ℕ} where
   pub readable_refuses : {why : Refusal} {t : Trace} → StopsWith why t → AllReadable R kinds records t → Refuses R kinds records t why
   readable_refuses StopsWith.here all = Refuses.stops
   readable_refuses (StopsWith.there {p} s) all = Refuses.after (all p here) (readable_refuses s (λ q m. all q (there m)))
+
+-- ---- a walk from what is gathered
+
+module _ (R : ℕ) (kinds : List Kind) (records : List ℕ) (t : Trace) {cs : List Content} {n : ℕ} (e : gathered R kinds records t ≡ accepted cs n) where
+  pub gathered_ends : EndsWith n t
+  gathered_ends = gathers_ends (gathered_gathers R kinds records t e)

@@ -19,15 +19,15 @@ mod cases;
 mod records;
 mod values;
 
-use case_lines::lines::input_lines;
+use case_lines::lines::{Lines, input_bytes};
 use case_lines::sheets::Sheet;
 use std::io;
 
 fn main(rt: HostRuntime) -> io::Result<()> {
-    let input = input_lines(&rt)?;
-    let mut lines = input.iter();
-    // By `next`, as a case takes the lines after its first from the same iterator.
-    while let Some(line) = lines.next() {
+    let input = input_bytes(&rt)?;
+    let mut lines = Lines { rest: &input };
+    // A case takes the lines after its first from the same ones.
+    while let Some(line) = lines.next_line() {
         if line.starts_with(b"*") {
             // The bytes need be no text, so no `Display` can write them.
             rt.write_all(line)?;

@@ -7,15 +7,15 @@
 mod answers;
 mod cases;
 
-use case_lines::lines::input_lines;
+use case_lines::lines::{Lines, input_bytes};
 use case_lines::sheets::Sheet;
 use std::io;
 
 fn main(rt: HostRuntime) -> io::Result<()> {
-    let input = input_lines(&rt)?;
-    let mut lines = input.iter();
-    // By `next`, as a case takes the lines after its first from the same iterator.
-    while let Some(head) = lines.next() {
+    let input = input_bytes(&rt)?;
+    let mut lines = Lines { rest: &input };
+    // A case takes the lines after its first from the same ones.
+    while let Some(head) = lines.next_line() {
         cases::show_case(&rt, &Sheet::new(head, &mut lines))?;
     }
     Ok(())

@@ -6,11 +6,21 @@ use Prim.Native.Nat.{ℕ, zero, suc, ◌+◌, ◌-◌, ◌*◌, ◌/◌, ◌%◌
 use native.Mathlib.Nat.{add_comm, div-div-eq-div-mul, div-lt_iff_lt-mul, le-div_iff_mul-le}
 use native.Mathlib.Decide.{dec_lt}
 use native.Mathlib.Omega.{arith}
+use lib.ListN.{length}
 use lib.Pow.{pow-add}
+use Rattle.number.specs.Limits.{largest}
 use Rattle.number.specs.Digits.{digits_of, digit_count}
 use Rattle.number.proofs.PowerLaws.{ten_pos}
-use Rattle.number.proofs.DigitLaws.{digit_count_least, digit_count_holds, digit_count_pos, count_more, count_found, digits_cut}
+use Rattle.number.proofs.DigitLaws.{length_digits, digit_count_least, digit_count_holds, digit_count_pos, count_more, count_found, digits_cut}
 use Rattle.sheet_text.specs.Output.{decimal_digits}
+
+pub length_decimal_digits : (n : ℕ) → length (decimal_digits n) ≡ digit_count n
+unfolding decimal_digits
+length_decimal_digits n = length_digits (digit_count n) n
+
+-- the first digits of a u64 are few
+pub high_low : (n : ℕ) {p : ℕ} → p ≡ 10 ^ 18 → n < 2 ^ 64 → n / p ≤ largest
+high_low n {p} e h = let b : n / 10 ^ 18 < 19 = (div-lt_iff_lt-mul (ten_pos 18)).1 (omega arith) in rw e (omega arith)
 
 -- the digits in two parts
 digits_add : (a b m : ℕ) → digits_of (a + b) m ≡ digits_of a (m / 10 ^ b) ++ digits_of b m

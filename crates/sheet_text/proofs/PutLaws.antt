@@ -9,6 +9,7 @@ use lib.Seq.{take_all, drop-drop, take-append-le, length-take-le}
 use borrow.Rule.Slice.PartMut.{put_mid}
 use Rattle.buffer.specs.Characters.{blank, bytes}
 use Rattle.buffer.specs.Splice.{splice}
+use Rattle.buffer.proofs.SpliceBytes.{length_splice}
 use Rattle.list_text.specs.Lines.{line_feed}
 use Rattle.sheet_text.specs.Output.{decimal_digits, counts_line, refused_line}
 
@@ -32,3 +33,7 @@ counts_are n k = simp append_assoc
 pub refused_are : (number place : ℕ) → ((((([] ++ bytes "refused ") ++ decimal_digits number) ++ (blank ∷ [])) ++ decimal_digits place) ++ (line_feed ∷ [])) ≡ refused_line number place
 unfolding refused_line
 refused_are number place = simp append_assoc
+
+-- the output's buffer keeps its length
+pub output_room : (d xs : List ℕ) {d₁ : List ℕ} {r : ℕ} → d₁ ≡ splice d 0 xs → r ≡ length xs → r ≤ length d → r ≤ length d₁
+output_room d xs e l h = rw (e, length_splice d 0 xs (omega arith)) h

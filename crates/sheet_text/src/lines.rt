@@ -4,6 +4,7 @@ ghost use Rattle.number.specs.Digits.{digits_of};
 ghost use Rattle.sheet_text.specs.Output.{decimal_digits, counts_line, refused_line};
 ghost use Rattle.sheet_text.specs.declared.lines.TheConstants.{LONGEST_LINE};
 
+use buffer::copying::copy;
 use number::MOST_DIGITS;
 use number::digits::digit_count;
 use number::powers::power_of_ten;
@@ -44,7 +45,7 @@ impl Line {
         ensures { self.new ≡ self.old ++ bytes.now }
     {
         let end = self.len + bytes.len();
-        self.bytes[self.len..end].copy_from_slice(bytes);
+        copy(&mut self.bytes[self.len..end], bytes);
         self.len = end;
     }
 

@@ -3,6 +3,8 @@ ghost use Rattle.std.specs.Prelude.{◌≡◌, ◌+◌, ◌*◌, ◌≤◌, leng
 ghost use Rattle.buffer.specs.Splice.{splice};
 ghost use Rattle.sheet_text.specs.Output.{record_lines};
 
+use buffer::copying::copy;
+
 // The first records of this width, each and a line feed. Answers the offset after them. (By index: of what stands behind
 // `chunks_mut` a proof would know nothing afterwards.)
 pub fn put_records(dst: &mut [u8], width: usize, count: usize, records: &[u8]) -> usize
@@ -12,7 +14,7 @@ pub fn put_records(dst: &mut [u8], width: usize, count: usize, records: &[u8]) -
     for i in 0..count {
         let at = i * (width + 1);
         let from = i * width;
-        dst[at..at + width].copy_from_slice(&records[from..from + width]);
+        copy(&mut dst[at..at + width], &records[from..from + width]);
         dst[at + width] = b'\n';
     }
     count * width + count

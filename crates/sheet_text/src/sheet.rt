@@ -12,6 +12,7 @@ use crate::records::put_records;
 use crate::width::read_width;
 use crate::writing::write_list_text;
 use crate::{INPUT, OUTPUT, RECORD_BUFFER};
+use buffer::copying::copy;
 use list_text::lines::split_line;
 use sheet_walk::{Counts, Refusal};
 
@@ -24,7 +25,7 @@ fn put_line(output: &mut [u8; OUTPUT], at: usize, line: &Line) -> usize
 {
     let bytes = line.as_bytes();
     let end = at + bytes.len();
-    output[at..end].copy_from_slice(bytes);
+    copy(&mut output[at..end], bytes);
     end
 }
 

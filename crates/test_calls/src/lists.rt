@@ -22,12 +22,23 @@ pub fn list_from(shapes: &[usize], numbers: &[i64], count: usize) -> List {
     list
 }
 
+// Puts the three numbers of a slot, or as many of them as fit. (One after another: by `put` alone they would be a call of `memcpy` for
+// each slot, which takes three times as long.)
+fn put_shape(shape: [usize; 3], out: &mut [usize]) {
+    match out {
+        [kind, first, len, ..] => [*kind, *first, *len] = shape,
+        _ => put(&shape, out),
+    }
+}
+
 // Puts all slots, those past the count too.
 pub fn put_list(list: &List, shapes: &mut [usize], numbers: &mut [i64]) {
-    for (element, shape) in list.elements.iter().zip(shapes.chunks_mut(3)) {
-        put(&Slot::from(element.value).shape, shape);
-    }
-    for (element, number) in list.elements.iter().zip(numbers) {
-        *number = Slot::from(element.value).number;
+    for (i, element) in list.elements.iter().enumerate() {
+        let slot = Slot::from(element.value);
+        let at = shapes.len().min(3 * i);
+        put_shape(slot.shape, &mut shapes[at..]);
+        if let Some(number) = numbers.get_mut(i) {
+            *number = slot.number;
+        }
     }
 }

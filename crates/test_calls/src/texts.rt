@@ -16,8 +16,9 @@ pub fn test_list_text(
     answer: &mut [usize],
 ) {
     let read = read_list(text);
-    let list = read.unwrap_or(List::empty());
-    put_list(&list, shapes, numbers);
+    let none = List::empty();
+    let list = read.as_ref().unwrap_or(&none);
+    put_list(list, shapes, numbers);
     let [number, place] = check_numbers(read);
     put(&[number, place, list.count], answer);
 }

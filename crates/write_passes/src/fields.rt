@@ -5,6 +5,7 @@ ghost use Rattle.list_elements.specs.Limits.{within_limits};
 ghost use Rattle.write_passes.specs.Placed.{field_characters, field_starred, field_too_large};
 ghost use Rattle.write_passes.specs.Passes.{FieldOf, SomeField, SomeSmallField};
 
+use buffer::copying::copy;
 use field_written::decimal::write_decimal;
 use field_written::integer::write_integer;
 use field_written::logical::write_logical;
@@ -57,5 +58,5 @@ pub fn put_literal(part: &mut [u8], start: usize, chars: &[u8])
     requires { start + length part.old ≤ length chars.now }
     ensures { part.new ≡ take (length part.old) (drop start chars.now) }
 {
-    part.copy_from_slice(&chars[start..][..part.len()]);
+    copy(part, &chars[start..][..part.len()]);
 }
