@@ -105,6 +105,16 @@ unblanked_after (x ∷ xs) = go (eqb x blank) refl (unblanked_after xs)
     go false e r = simp e
 
 -- and no blank stands in front of that
+-- what stands before it
+pub blanks_before : (s : List ℕ) → (front : List ℕ) × (s ≡ front ++ after_blanks s)
+unfolding after_blanks
+blanks_before [] = ([], refl)
+blanks_before (x ∷ xs) = go (eqb x blank) (blanks_before xs)
+  where
+    go : (b : Bool) → (front : List ℕ) × (xs ≡ front ++ after_blanks xs) → (front : List ℕ) × (x ∷ xs ≡ front ++ cond b (after_blanks xs) (x ∷ xs))
+    go true w = (x ∷ w.0, ap (λ (l : List ℕ). x ∷ l) w.1)
+    go false w = ([], refl)
+
 pub after_first : (s : List ℕ) {x : ℕ} {t : List ℕ} → after_blanks s ≡ x ∷ t → x ≡ blank → ⊥
 unfolding after_blanks
 after_first [] e z = let k : ◌≡◌ {A = ℕ} 0 1 = cc in absurd (omega arith)

@@ -1,6 +1,6 @@
 -- The loop over a run of digits.
 -- Assumes nothing.
-use mathlib.Core.Path.{◌≡◌, refl, ◌∙◌}
+use mathlib.Core.Path.{◌≡◌, refl, sym, ap, ◌∙◌}
 use mathlib.Core.Bool.{Bool, true, false, ◌&&◌}
 use mathlib.Core.List.{List, [], ◌∷◌, ◌++◌, append_assoc}
 use Prim.Native.Nat.{ℕ, ◌+◌, ◌-◌, ◌*◌, ◌^◌, ◌<◌, ◌≤◌}
@@ -36,13 +36,19 @@ stopped_none (x ∷ s) h = absurd (omega arith)
 pub running_none : {s : List ℕ} {v : ℕ} → v ≤ largest → RunSoFar s v v 0 s
 unfolding value
 running_none {s} {v} l =
-    record { digits = []; all = tt; rest_is = refl; many = refl; is = omega arith; low = l; fewer = omega arith }
+    record { front = []; ends = refl; digits = []; all = tt; rest_is = refl; many = refl; is = omega arith; low = l; fewer = omega arith }
 
 module _ {s : List ℕ} {v m count : ℕ} {rest : List ℕ} (w : RunSoFar s v m count rest) where
+  -- what is left of it after one byte more
+  ends_after : {x : ℕ} {t : List ℕ} → rest ≡ x ∷ t → s ≡ (w.front ++ (x ∷ [])) ++ t
+  ends_after {x} {t} e = w.ends ∙ ap (λ (l : List ℕ). w.front ++ l) e ∙ sym (append_assoc w.front (x ∷ []) t)
+
   pub running_blank : {t : List ℕ} → rest ≡ 32 ∷ t → RunSoFar s v m count t
   running_blank {t} e =
       let l : length rest ≡ length (32 ∷ t) = rw e in
       record {
+        front = w.front ++ (32 ∷ []);
+        ends = ends_after e;
         digits = w.digits;
         all = w.all;
         rest_is = w.rest_is ∙ rw e (rw (at_blank t));
@@ -83,6 +89,8 @@ module _ {s : List ℕ} {v m count : ℕ} {rest : List ℕ} (w : RunSoFar s v m 
     running_digit b =
         let l : length rest ≡ length (x ∷ t) = rw e in
         record {
+          front = w.front ++ (x ∷ []);
+          ends = ends_after e;
           digits = one;
           all = one_digits;
           rest_is = one_rest;

@@ -10,8 +10,10 @@ use Rattle.field_written.specs.declared.Sign.{Sign}
 use Rattle.field_read.specs.Read.{unblanked, sign_of, after_sign}
 use Rattle.field_read.specs.declared.Run.{Run}
 
--- something is left of s without its blanks: the sign, and what follows it is `rest`, blanks aside
+-- something is left of s without its blanks: the sign, and what follows it is the end `rest` of s
 pub record Signed (s : List ℕ) (sign : Sign) (rest : List ℕ) : Type 0 where
+  pub front : List ℕ
+  pub ends : s ≡ front ++ rest
   pub some : 0 < length (unblanked s)
   pub sign_is : sign ≡ sign_of (unblanked s)
   pub rest_is : after_sign (unblanked s) ≡ unblanked rest
@@ -20,9 +22,11 @@ abbrev pub FrontIs : List ℕ → Option (Sign × Bor (List ℕ)) → Type 0
 FrontIs s None = unblanked s ≡ []
 FrontIs s (Some f) = Signed s f.0 f.1.now
 
--- before `rest` stand `count` digits, blanks among them, which after the number v make the number m.
+-- before the end `rest` of s stand `count` digits, blanks among them, which after the number v make the number m.
 -- (`fewer`: so that `count` does not overflow.)
 pub record RunSoFar (s : List ℕ) (v m count : ℕ) (rest : List ℕ) : Type 0 where
+  pub front : List ℕ
+  pub ends : s ≡ front ++ rest
   pub digits : List ℕ
   pub all : Digits digits
   pub rest_is : unblanked s ≡ digits ++ unblanked rest

@@ -21,7 +21,7 @@ use Rattle.format_read.specs.Steps.{number_at, NumberFound, outside_after, found
 use Rattle.format_read.specs.declared.Found.{Found}
 use Rattle.format_read.specs.declared.Single.{Single}
 use Rattle.format_read.specs.declared.Ungrammatical.{Ungrammatical}
-use Rattle.format_read.proofs.SingleSteps.{Ends, one_missing, one_read, ends-T, not_some, times_at, outside_append, number_stuck, number_on}
+use Rattle.format_read.proofs.SingleSteps.{Ends, one_missing, one_read, ends-T, not_some, times_at, times_few, numbers_small, outside_append, number_stuck, number_on}
 
 module _ {s : List ℕ} {from at : ℕ} {v : Option ℕ} (f : NumberFound s from v at) (h : at < length s) where
   -- a letter that leads to the mode m
@@ -34,8 +34,10 @@ module _ {s : List ℕ} {from at : ℕ} {v : Option ℕ} (f : NumberFound s from
         late = repeat_numbers k ++ i.late;
         first = i.first;
         runs = λ l xs q. number_on f Use.start h (State.within m) g (λ l xs q a b. refl) l xs q ∙ i.runs l xs q;
+        no_literal = i.no_literal;
         no_characters = i.no_characters;
         small = i.small;
+        few = λ a. i.few (numbers_small from v f.small);
         numbers_are = i.numbers_are;
         outside_is = i.outside_is ∙ ap (λ (z : Option ℕ). outside_after z i.late) out ∙ sym (outside_append o (repeat_numbers k) i.late);
         more = omega (arith, f.low, i.more);
@@ -56,8 +58,10 @@ module _ {s : List ℕ} {from at : ℕ} {v : Option ℕ} (f : NumberFound s from
         late = repeat_numbers k;
         first = λ t. subst (λ (m : ℕ). First (Items.slash k Items.none) m Met.slash Items.none) (times_at from v ∙ sym rep) First.slash;
         runs = number_on f Use.start h (λ l xs q. State.within Mode.after l (join xs (Items.slash k Items.none)) q) (λ l xs q. rw g) (λ l xs q a b. refl);
+        no_literal = λ start n e. cc;
         no_characters = refl;
         small = omega arith;
+        few = λ a. omega (arith, rep, times_few v f.small);
         numbers_are = append-nil (repeat_numbers k);
         outside_is = out;
         more = omega (arith, f.low);
@@ -80,8 +84,10 @@ X-read {s} {from} {v} {at} f h g o o₁ out =
       late = range_n n ∷ [];
       first = λ t. First.X;
       runs = number_on f Use.start h (λ l xs q. State.within Mode.after l (join xs (Items.X n Items.none)) q) (λ l xs q. rw g) (λ l xs q a b. refl);
+      no_literal = λ start n e. cc;
       no_characters = refl;
       small = omega arith;
+      few = λ a. omega arith;
       numbers_are = refl;
       outside_is = out;
       more = omega (arith, f.low);

@@ -17,6 +17,7 @@ pub record DigitsSoFar (s : List ℕ) (at value i : ℕ) : Type 0 where
   pub runs : (u : Use) (l : ℕ) (xs : Items) (q : Open) → read_at s at (State.within (Mode.digits u at 0) l xs q) ≡ read_at s i (State.within (Mode.digits u at value) l xs q)
   pub low : at ≤ i
   pub high : i ≤ length s
+  pub few : i ≤ at + 3
   pub small : value < 1000
   pub small2 : i ≤ at + 2 → value < 100
   pub small1 : i ≤ at + 1 → value < 10
@@ -30,6 +31,7 @@ digits_more {s} {at} {value} {i} f h g d x e =
       runs = λ u l xs q. f.runs u l xs q ∙ rw x (read_step s i _ _ h (step_digit u at value i l xs q (get_or s i 0) g k.0 k.1) (λ a b. refl));
       low = omega (arith, f.low);
       high = omega arith;
+      few = omega arith;
       small = omega (arith, f.small2 (omega arith), k.1);
       small2 = λ m. omega (arith, f.small1 (omega arith), k.1);
       small1 = λ m. omega (arith, f.small0 (omega arith), k.1);

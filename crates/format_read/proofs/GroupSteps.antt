@@ -30,8 +30,8 @@ module _ {l r : ℕ} {p inside p' : Position} {a b d : List Entry} {t u v : List
   same = k.same_text ∙ o.same_text
 
   -- its entry, which comes before those of its items
-  pub group_fits : (p.entries < length d) × (p'.entries ≤ length d)
-  group_fits = (omega (arith, k.more_entries, o.entries_are, p'.few_entries, within_text p p' same, fit), omega (arith, p'.few_entries, within_text p p' same, fit))
+  pub group_fits : (p.entries < length d) × (p'.entries ≤ length d) × (r < 1000)
+  group_fits = (omega (arith, k.more_entries, o.entries_are, p'.few_entries, within_text p p' same, fit), omega (arith, p'.few_entries, within_text p p' same, fit), o.few)
 
   pub took_group : (e : List Entry) → e ≡ set d p.entries (entry.Group (p'.entries - p.entries - 1) r) → Took l (wanted p.at) (State.within Mode.after) p a t p' e v
   unfolding join numbers

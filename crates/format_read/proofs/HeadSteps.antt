@@ -17,7 +17,7 @@ use Rattle.format_words.specs.declared.Entry.{Entry}
 use Rattle.format_read.specs.Steps.{number_at, NumberFound, outside_after, Stuck, Opened}
 use Rattle.format_read.specs.declared.Position.{Position}
 use Rattle.format_grammar.proofs.Cases.{is_mark}
-use Rattle.format_read.proofs.SingleSteps.{times_at, number_stuck_at, number_on_at}
+use Rattle.format_read.proofs.SingleSteps.{times_at, times_few, number_stuck_at, number_on_at}
 use Rattle.format_read.proofs.BegunSteps.{after_digits}
 use Rattle.format_read.proofs.TakeSteps.{Moved}
 
@@ -43,6 +43,7 @@ module _ {at l : ℕ} {v : Option ℕ} (p : Position) (f : NumberFound p.text.no
         entries_are = m.entries_are;
         chars_are = m.chars_are;
         deep = omega arith;
+        few = omega (arith, rep, times_few v f.small);
         more = omega (arith, m.at_is, f.low);
       }
 

@@ -24,7 +24,7 @@ use Rattle.format_words.specs.Packing.{detail_of}
 use Rattle.format_words.specs.declared.Word.{Word}
 use Rattle.format_words.specs.declared.Word.TheVariants as word
 use Rattle.format_words.specs.Held.{First}
-use Rattle.format_read.specs.Steps.{number_at, NumberFound, keep_first, outside_after, ItemRead, Stuck}
+use Rattle.format_read.specs.Steps.{number_at, NumberFound, keep_first, outside_after, AllSmall, ItemRead, Stuck}
 
 -- ---- numbers out of range
 
@@ -61,6 +61,19 @@ not_some (Some x) h = absurd (cc)
 pub times_at : (at : ℕ) (v : Option ℕ) → times (number_at at v) ≡ unwrap_or v 1
 times_at at None = refl
 times_at at (Some v) = refl
+
+-- below 1,000, as a number of three digits is
+pub times_few : (v : Option ℕ) → unwrap_or v 0 < 1000 → unwrap_or v 1 < 1000
+times_few None h = omega arith
+times_few (Some v) h = h
+
+pub numbers_small : (at : ℕ) (v : Option ℕ) → unwrap_or v 0 < 1000 → AllSmall (repeat_numbers (number_at at v))
+numbers_small at None h = tt
+numbers_small at (Some v) h = (h, tt)
+
+pub repeat_few : (k : Repeat) {r : ℕ} → times k ≡ r → AllSmall (repeat_numbers k) → r < 1000
+repeat_few Repeat.absent rep a = omega arith
+repeat_few (Repeat.given n) rep a = omega (arith, rep, a.0)
 
 -- ---- the byte after a number
 
@@ -106,6 +119,7 @@ pub record Ends (u : Use) (k : Repeat) (w : ℕ → Word) (high : ℕ) : Type 0 
   pub needed : (at l : ℕ) (xs : Items) (q : Open) (b : ℕ) → used u Repeat.absent at l xs q b ≡ State.dead
   pub enough : (n : Number) (at l : ℕ) (xs : Items) (q : Open) (b : ℕ) → used u (Repeat.given n) at l xs q b ≡ separated at l (join xs (item n)) q b
   pub first : (t : List ℕ) (n : Number) → First (item n) (times k) (met_of t (w (value_of n))) Items.none
+  pub no_literal : (v start n : ℕ) → w v ≡ word.Literal start n → ⊥
   pub no_characters : (v : ℕ) → reach (w v) ≡ 0
   pub no_detail : (v : ℕ) → detail_of (w v) ≡ 0
   pub numbers_are : (n : Number) → numbers (item n) ≡ repeat_numbers k ++ ranged n 1 high ∷ []
@@ -123,8 +137,10 @@ module _ {s : List ℕ} {at next : ℕ} {u : Use} {k : Repeat} {w : ℕ → Word
         late = ranged n 1 high ∷ [];
         first = λ t. subst (λ (m : ℕ). First (e.item n) m (met_of t (w v)) Items.none) rep (e.first t n);
         runs = number_ends f u (e.item n) (λ l xs q b. e.enough n next l xs q b);
+        no_literal = e.no_literal v;
         no_characters = e.no_characters v;
         small = omega (arith, e.no_detail v);
+        few = repeat_few k rep;
         numbers_are = e.numbers_are n;
         outside_is = out ∙ sym (outside_one o (ranged n 1 high));
         more = f.low;
@@ -138,24 +154,25 @@ module _ {u : Use} {k : Repeat} {w : ℕ → Word} (field : Number → Field Num
   ends_field : ((at l : ℕ) (xs : Items) (q : Open) (b : ℕ) → used u Repeat.absent at l xs q b ≡ State.dead)
       → ((n : Number) (at l : ℕ) (xs : Items) (q : Open) (b : ℕ) → used u (Repeat.given n) at l xs q b ≡ separated at l (join xs (Items.field k (field n) Items.none)) q b)
       → ((t : List ℕ) (n : Number) → First (Items.field k (field n) Items.none) (times k) (met_of t (w (value_of n))) Items.none)
-      → ((v : ℕ) → reach (w v) ≡ 0) → ((v : ℕ) → detail_of (w v) ≡ 0) → ((n : Number) → field_numbers (field n) ≡ range_w n ∷ []) → Ends u k w 64
+      → ((v start n : ℕ) → w v ≡ word.Literal start n → ⊥) → ((v : ℕ) → reach (w v) ≡ 0) → ((v : ℕ) → detail_of (w v) ≡ 0) → ((n : Number) → field_numbers (field n) ≡ range_w n ∷ []) → Ends u k w 64
   unfolding numbers
-  ends_field needed enough first none detail ranges =
+  ends_field needed enough first other none detail ranges =
       record {
         item = λ n. Items.field k (field n) Items.none;
         needed = needed;
         enough = enough;
         first = first;
+        no_literal = other;
         no_characters = none;
         no_detail = detail;
         numbers_are = λ n. rw (ranges n) (append-nil (repeat_numbers k ++ range_w n ∷ []));
       }
 
 pub ends-I : (k : Repeat) → Ends (Use.width_i k) k word.I 64
-ends-I k = ends_field Field.I (λ at l xs q b. refl) (λ n at l xs q b. refl) (λ t n. First.field) (λ v. refl) (λ v. refl) (λ n. refl)
+ends-I k = ends_field Field.I (λ at l xs q b. refl) (λ n at l xs q b. refl) (λ t n. First.field) (λ v start n e. cc) (λ v. refl) (λ v. refl) (λ n. refl)
 
 pub ends-L : (k : Repeat) → Ends (Use.width_l k) k word.L 64
-ends-L k = ends_field Field.L (λ at l xs q b. refl) (λ n at l xs q b. refl) (λ t n. First.field) (λ v. refl) (λ v. refl) (λ n. refl)
+ends-L k = ends_field Field.L (λ at l xs q b. refl) (λ n at l xs q b. refl) (λ t n. First.field) (λ v start n e. cc) (λ v. refl) (λ v. refl) (λ n. refl)
 
 pub ends-T : Ends Use.column Repeat.absent word.T 255
 unfolding numbers
@@ -165,6 +182,7 @@ ends-T =
       needed = λ at l xs q b. refl;
       enough = λ n at l xs q b. refl;
       first = λ t n. First.T;
+      no_literal = λ v start n e. cc;
       no_characters = λ v. refl;
       no_detail = λ v. refl;
       numbers_are = λ n. refl;
@@ -183,8 +201,10 @@ module _ {s : List ℕ} {at : ℕ} (o : Option ℕ) where
         late = [];
         first = λ t. First.setting;
         runs = runs;
+        no_literal = λ start n e. cc;
         no_characters = refl;
         small = omega arith;
+        few = λ a. omega arith;
         numbers_are = refl;
         outside_is = sym (outside_none o);
         more = low;
@@ -223,8 +243,10 @@ module _ {s : List ℕ} {at next : ℕ} (k : Repeat) (r : ℕ) (rep : times k �
         late = [];
         first = λ t. subst (λ (m : ℕ). First (Items.field k Field.A Items.none) m (Met.field Field.A) Items.none) rep First.field;
         runs = number_ends f (Use.width_a k) (Items.field k Field.A Items.none) (λ l xs q b. refl);
+        no_literal = λ start n e. cc;
         no_characters = refl;
         small = omega arith;
+        few = repeat_few k rep;
         numbers_are = append-nil (repeat_numbers k ++ []);
         outside_is = sym (outside_none o);
         more = f.low;
@@ -240,8 +262,10 @@ module _ {s : List ℕ} {at next : ℕ} (k : Repeat) (r : ℕ) (rep : times k �
         late = range_w n ∷ [];
         first = λ t. subst (λ (m : ℕ). First (Items.field k (Field.Aw n) Items.none) m (Met.field (Field.Aw v)) Items.none) rep First.field;
         runs = number_ends f (Use.width_a k) (Items.field k (Field.Aw n) Items.none) (λ l xs q b. refl);
+        no_literal = λ start n e. cc;
         no_characters = refl;
         small = omega arith;
+        few = repeat_few k rep;
         numbers_are = append-nil (repeat_numbers k ++ range_w n ∷ []);
         outside_is = out ∙ sym (outside_one o (range_w n));
         more = f.low;
@@ -280,8 +304,10 @@ module _ {s : List ℕ} {at w point : ℕ} (f : NumberFound s at (Some w) point)
             late = range_w m ∷ range_d n ∷ [];
             first = λ t. subst (λ (j : ℕ). First (Items.field k (Field.F m n) Items.none) j (Met.field (Field.F w d)) Items.none) rep First.field;
             runs = λ l xs q. decimal_on l xs q ∙ number_ends g (Use.places k m) (Items.field k (Field.F m n) Items.none) (λ l xs q b. refl) l xs q;
+            no_literal = λ start n e. cc;
             no_characters = refl;
             small = omega (arith, g.small);
+            few = repeat_few k rep;
             numbers_are = append-nil (repeat_numbers k ++ range_w m ∷ range_d n ∷ []);
             outside_is = x₂ ∙ ap (λ (z : Option ℕ). keep_first z (range_d n)) x₁;
             more = omega (arith, f.low, g.low);

@@ -3,12 +3,13 @@
 use Rattle.std.specs.Prelude.{◌≡◌, false, ◌&&◌, cond, List, [], ◌∷◌, ◌++◌, ℕ, ◌+◌, ◌-◌, ◌<◌, ◌≤◌, ltb, length, get_or, take, drop, Option, Some, None, unwrap_or, Result, Ok, Err}
 use Rattle.number.specs.Digits.{is_digit}
 use Rattle.format_grammar.specs.Characters.{opening_bracket, apostrophe, quotation_mark}
-use Rattle.format_items.specs.Items.{number, Repeat, absent, given, times, Items, join}
+use Rattle.format_items.specs.Items.{number, value_of, Repeat, absent, given, times, Items, join}
 use Rattle.format_items.specs.Ranges.{Ranged, ranged, outside, place, repeat_numbers, numbers}
 use Rattle.format_grammar.specs.Reading.{Use, Mode, Open, State, Reading, wanted, written, read_at}
 use Rattle.format_words.specs.Words.{met_of, reach}
 use Rattle.format_words.specs.Packing.{detail_of}
 use Rattle.format_words.specs.declared.Word.{Word}
+use Rattle.format_words.specs.declared.Word.TheVariants as word
 use Rattle.format_words.specs.declared.Entry.{Entry}
 use Rattle.format_words.specs.Held.{First, Holds}
 use Rattle.format_read.specs.declared.Position.{Position}
@@ -51,15 +52,22 @@ found s at high o o' (Err e) = NumberFound s at None e.place
 
 -- ---- items that are neither groups nor literals
 
+-- every number is below 1,000
+abbrev pub AllSmall : List Ranged → Type 0
+AllSmall [] = Unit
+AllSmall (ranged n low high ∷ ns) = (value_of n < 1000) × AllSmall ns
+
 -- from the mode m at a, an item was read up to `next`, which is not before `least`; its numbers but for ns, which come
--- first, were looked at
+-- first, were looked at; its repeat is below 1,000 if those are
 pub record ItemRead (s : List ℕ) (a : ℕ) (m : Mode) (ns : List Ranged) (least : ℕ) (o : Option ℕ) (w : Word) (r next : ℕ) (o' : Option ℕ) : Type 0 where
   pub item : Items
   pub late : List Ranged
   pub first : (t : List ℕ) → First item r (met_of t w) Items.none
   pub runs : (l : ℕ) (xs : Items) (q : Open) → read_at s a (State.within m l xs q) ≡ read_at s next (State.within Mode.after l (join xs item) q)
+  pub no_literal : (start n : ℕ) → w ≡ word.Literal start n → ⊥
   pub no_characters : reach w ≡ 0
   pub small : detail_of w < 4096
+  pub few : AllSmall ns → r < 1000
   pub numbers_are : numbers item ≡ ns ++ late
   pub outside_is : o' ≡ outside_after o late
   pub more : least ≤ next
@@ -142,6 +150,7 @@ pub record Opened (l : ℕ) (p inside : Position) (r : ℕ) (a : List Entry) (t 
   pub entries_are : inside.entries ≡ p.entries + 1
   pub chars_are : inside.chars ≡ p.chars
   pub deep : 0 < l
+  pub few : r < 1000
   pub more : p.at < inside.at
 
 -- an item, the opening of a group, or neither
