@@ -34,8 +34,8 @@
 #include <stddef.h>
 #include <stdint.h>
 
-/* The version of this header: 1.1.0, as 10000 * 1 + 100 * 1 + 0. The archive has none in it: take both from one checkout. */
-#define TRIMSHEET_VERSION 10100
+/* The version of this header: 1.1.1, as 10000 * 1 + 100 * 1 + 1. The archive has none in it: take both from one checkout. */
+#define TRIMSHEET_VERSION 10101
 
 #ifdef __cplusplus
 extern "C" {

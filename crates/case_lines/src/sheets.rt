@@ -15,7 +15,7 @@ pub struct Sheet<'a> {
 }
 
 // The next line; an empty one where there is none.
-fn next_line<'a>(lines: &mut Lines<'a>) -> &'a [u8]
+fn line_or_empty<'a>(lines: &mut Lines<'a>) -> &'a [u8]
     ensures { length lines.new.rest.now ≤ length lines.old.rest.now }
 {
     lines.next_line().unwrap_or(&[])
@@ -42,8 +42,8 @@ impl<'a> Sheet<'a> {
     {
         Sheet {
             head,
-            format: next_line(lines),
-            bytes: next_line(lines),
+            format: line_or_empty(lines),
+            bytes: line_or_empty(lines),
             list: next_list(lines),
         }
     }

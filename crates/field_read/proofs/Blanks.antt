@@ -2,7 +2,7 @@
 -- Assumes nothing.
 use mathlib.Core.Path.{◌≡◌, refl, sym, ap, ◌∙◌}
 use mathlib.Core.Bool.{Bool, true, false, cond}
-use mathlib.Core.List.{List, [], ◌∷◌, ◌++◌}
+use mathlib.Core.List.{List, [], ◌∷◌, ◌++◌, append_assoc}
 use Prim.Native.Nat.{ℕ, zero, suc, ◌-◌, ◌<◌, ◌≤◌}
 use native.Mathlib.Omega.{arith}
 use borrow.Author.Tests.{ne_eqb, eqb-true, eqb-false}
@@ -104,8 +104,7 @@ unblanked_after (x ∷ xs) = go (eqb x blank) refl (unblanked_after xs)
     go true e r = r
     go false e r = simp e
 
--- and no blank stands in front of that
--- what stands before it
+-- which is an end of s
 pub blanks_before : (s : List ℕ) → (front : List ℕ) × (s ≡ front ++ after_blanks s)
 unfolding after_blanks
 blanks_before [] = ([], refl)
@@ -115,6 +114,11 @@ blanks_before (x ∷ xs) = go (eqb x blank) (blanks_before xs)
     go true w = (x ∷ w.0, ap (λ (l : List ℕ). x ∷ l) w.1)
     go false w = ([], refl)
 
+-- an end of s, after its first byte
+pub ends_after : (s front : List ℕ) (x : ℕ) (t : List ℕ) → s ≡ front ++ (x ∷ t) → s ≡ (front ++ (x ∷ [])) ++ t
+ends_after s front x t e = e ∙ sym (append_assoc front (x ∷ []) t)
+
+-- and no blank stands in front of it
 pub after_first : (s : List ℕ) {x : ℕ} {t : List ℕ} → after_blanks s ≡ x ∷ t → x ≡ blank → ⊥
 unfolding after_blanks
 after_first [] e z = let k : ◌≡◌ {A = ℕ} 0 1 = cc in absurd (omega arith)

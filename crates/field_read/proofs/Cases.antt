@@ -20,7 +20,7 @@ use Rattle.field_read.specs.Read.{number, unblanked, sign_of, after_sign, before
 use Rattle.field_read.specs.LogicalRead.{after_blanks}
 use Rattle.field_read.specs.Steps.{Signed, Ran, RunTooLarge, Stopped}
 use Rattle.std.specs.Prelude.{None}
-use Rattle.field_read.proofs.Blanks.{at_other, unblanked_none, unblanked_after, blanks_before, after_first}
+use Rattle.field_read.proofs.Blanks.{at_other, unblanked_none, unblanked_after, blanks_before, ends_after, after_first}
 use Rattle.field_read.proofs.Numbers.{number_good, number_bad, number_over, number_long, before_digits, from_digits, before_other, at_point, before_all, from_all}
 
 -- ---- the front
@@ -58,14 +58,11 @@ module _ (s : List ℕ) where
     unfolding before
     ends = (blanks_before s).1 ∙ ap (λ (l : List ℕ). (blanks_before s).0 ++ l) e
 
-    ends_after : s ≡ (before ++ (x ∷ [])) ++ t
-    ends_after = ends ∙ sym (append_assoc before (x ∷ []) t)
-
     pub front_plus : x ≡ plus_sign → Signed s Plus t
-    front_plus z = record { front = before ++ (x ∷ []); ends = ends_after; some = rw first (omega arith); sign_is = rw (first, z); rest_is = rw (first, z) }
+    front_plus z = record { front = before ++ (x ∷ []); ends = ends_after s before x t ends; some = rw first (omega arith); sign_is = rw (first, z); rest_is = rw (first, z) }
 
     pub front_minus : x ≡ minus_sign → Signed s Minus t
-    front_minus z = record { front = before ++ (x ∷ []); ends = ends_after; some = rw first (omega arith); sign_is = rw (first, z); rest_is = rw (first, z) }
+    front_minus z = record { front = before ++ (x ∷ []); ends = ends_after s before x t ends; some = rw first (omega arith); sign_is = rw (first, z); rest_is = rw (first, z) }
 
     pub front_none : (x ≡ plus_sign → ⊥) → (x ≡ minus_sign → ⊥) → Signed s NoSign (x ∷ t)
     front_none p m =

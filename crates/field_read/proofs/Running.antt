@@ -1,6 +1,6 @@
 -- The loop over a run of digits.
 -- Assumes nothing.
-use mathlib.Core.Path.{◌≡◌, refl, sym, ap, ◌∙◌}
+use mathlib.Core.Path.{◌≡◌, refl, ap, ◌∙◌}
 use mathlib.Core.Bool.{Bool, true, false, ◌&&◌}
 use mathlib.Core.List.{List, [], ◌∷◌, ◌++◌, append_assoc}
 use Prim.Native.Nat.{ℕ, ◌+◌, ◌-◌, ◌*◌, ◌^◌, ◌<◌, ◌≤◌}
@@ -15,7 +15,7 @@ use Rattle.number.specs.Digits.{is_digit, Digits, value}
 use Rattle.number.proofs.DigitLaws.{value_append, digits_append}
 use Rattle.field_read.specs.Read.{unblanked}
 use Rattle.field_read.specs.Steps.{RunSoFar, Ran, RunTooLarge, Stopped}
-use Rattle.field_read.proofs.Blanks.{at_blank, at_other}
+use Rattle.field_read.proofs.Blanks.{at_blank, at_other, ends_after}
 
 -- ---- where a run stops
 
@@ -39,16 +39,16 @@ running_none {s} {v} l =
     record { front = []; ends = refl; digits = []; all = tt; rest_is = refl; many = refl; is = omega arith; low = l; fewer = omega arith }
 
 module _ {s : List ℕ} {v m count : ℕ} {rest : List ℕ} (w : RunSoFar s v m count rest) where
-  -- what is left of it after one byte more
-  ends_after : {x : ℕ} {t : List ℕ} → rest ≡ x ∷ t → s ≡ (w.front ++ (x ∷ [])) ++ t
-  ends_after {x} {t} e = w.ends ∙ ap (λ (l : List ℕ). w.front ++ l) e ∙ sym (append_assoc w.front (x ∷ []) t)
+  -- after one byte more
+  next_ends : {x : ℕ} {t : List ℕ} → rest ≡ x ∷ t → s ≡ (w.front ++ (x ∷ [])) ++ t
+  next_ends {x} {t} e = ends_after s w.front x t (w.ends ∙ ap (λ (l : List ℕ). w.front ++ l) e)
 
   pub running_blank : {t : List ℕ} → rest ≡ 32 ∷ t → RunSoFar s v m count t
   running_blank {t} e =
       let l : length rest ≡ length (32 ∷ t) = rw e in
       record {
         front = w.front ++ (32 ∷ []);
-        ends = ends_after e;
+        ends = next_ends e;
         digits = w.digits;
         all = w.all;
         rest_is = w.rest_is ∙ rw e (rw (at_blank t));
@@ -90,7 +90,7 @@ module _ {s : List ℕ} {v m count : ℕ} {rest : List ℕ} (w : RunSoFar s v m 
         let l : length rest ≡ length (x ∷ t) = rw e in
         record {
           front = w.front ++ (x ∷ []);
-          ends = ends_after e;
+          ends = next_ends e;
           digits = one;
           all = one_digits;
           rest_is = one_rest;

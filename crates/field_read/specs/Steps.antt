@@ -10,7 +10,7 @@ use Rattle.field_written.specs.declared.Sign.{Sign}
 use Rattle.field_read.specs.Read.{unblanked, sign_of, after_sign}
 use Rattle.field_read.specs.declared.Run.{Run}
 
--- something is left of s without its blanks: the sign, and what follows it is the end `rest` of s
+-- something is left of s without its blanks: the sign, and what follows it, blanks aside, which is the end `rest` of s
 pub record Signed (s : List ℕ) (sign : Sign) (rest : List ℕ) : Type 0 where
   pub front : List ℕ
   pub ends : s ≡ front ++ rest

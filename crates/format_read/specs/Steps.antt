@@ -58,7 +58,7 @@ AllSmall [] = Unit
 AllSmall (ranged n low high ∷ ns) = (value_of n < 1000) × AllSmall ns
 
 -- from the mode m at a, an item was read up to `next`, which is not before `least`; its numbers but for ns, which come
--- first, were looked at; its repeat is below 1,000 if those are
+-- first, were looked at; its repeat is below 1,000 if ns are
 pub record ItemRead (s : List ℕ) (a : ℕ) (m : Mode) (ns : List Ranged) (least : ℕ) (o : Option ℕ) (w : Word) (r next : ℕ) (o' : Option ℕ) : Type 0 where
   pub item : Items
   pub late : List Ranged

@@ -94,7 +94,7 @@ module _ (test : Value → Bool) (l : carried.List) {n : ℕ} (is : n ≡ min l.
       over (inr g) = omega arith
   checked_as (Some es) h full e = (check_fine e (omega (arith, h.0.1)), h.0.2 ∙ rw (sub-zero l.count))
 
--- how many values a list has, with as many places as it has
+-- how many values a list has, its array being of full length
 module _ (l : carried.List) (full : length l.elements ≡ most_elements) where
   pub values_length : length (values l) ≡ min l.count most_elements
   unfolding values

@@ -26,7 +26,7 @@ use std::io;
 fn main(rt: HostRuntime) -> io::Result<()> {
     let input = input_bytes(&rt)?;
     let mut lines = Lines { rest: &input };
-    // A case takes the lines after its first from the same ones.
+    // A case takes the lines after its first from the same `Lines`.
     while let Some(line) = lines.next_line() {
         if line.starts_with(b"*") {
             // The bytes need be no text, so no `Display` can write them.

@@ -14,7 +14,7 @@ use std::io;
 fn main(rt: HostRuntime) -> io::Result<()> {
     let input = input_bytes(&rt)?;
     let mut lines = Lines { rest: &input };
-    // A case takes the lines after its first from the same ones.
+    // A case takes the lines after its first from the same `Lines`.
     while let Some(head) = lines.next_line() {
         cases::show_case(&rt, &Sheet::new(head, &mut lines))?;
     }

@@ -10,5 +10,5 @@ use Rattle.sheet_walk.specs.Walk.{sheet}
 use Rattle.sheet_walk.specs.Given.{run_sheet}
 
 -- the sheet of a format's run is the format's
-pub run_sheet_is : {format : List ℕ} {r : Run} (h : RunHeld format r) (es : List Element) (rs : Records) → run_sheet r es rs ≡ sheet h.items (kinds_of es) rs
-run_sheet_is h es rs = rw (h.return_to, h.mean)
+pub run_sheet_is : {format : List ℕ} (r : Run) (h : RunHeld format r) (es : List Element) (rs : Records) → run_sheet r es rs ≡ sheet h.items (kinds_of es) rs
+run_sheet_is r h es rs = rw (h.return_to, h.mean)

@@ -90,7 +90,7 @@ pub wrote_under : (l : Listed) (r : Run) (rs : records.Records) (R B : ℕ) → 
 wrote_under l r rs R B e k {before} {a} {after} w =
     let lent = subst (λ (x : Records). Wrote x.width l.area.now (values_in l) before (walked (values_in l) (walk (run_sheet r l.elements.now x))) a after) e w in
     subst (λ (z : Sheet). Wrote R l.area.now (values_in l) before (walked (values_in l) (walk z)) a after)
-    (run_sheet_is k l.elements.now (records_in R B) ∙ ap (λ ks. sheet k.items ks (records_in R B)) (kinds_are l.elements.now)) lent
+    (run_sheet_is r k l.elements.now (records_in R B) ∙ ap (λ ks. sheet k.items ks (records_in R B)) (kinds_are l.elements.now)) lent
 
 -- ---- the rows before the walk
 

@@ -12,5 +12,5 @@ returns c =
     let i = c.in_ok-items.ensures in
     let r = c.unroll.ensures.words _ i.c i.items i.holds in (
       omega (arith, c.unroll.ensures.count _ i.c i.items i.holds, met_is_size i.items, i.sized, c.if-run-items.false, c.unroll.auto.run),
-      record { items = i.items; accepts = i.accepts; sound = run_sound i r; mean = r.mean; within = run_within i r; return_to = run_returns i r (c.unroll.ensures.returns _ i.c i.items i.holds) },
+      record { held = record { items = i.items; accepts = i.accepts; mean = r.mean; return_to = run_returns i r (c.unroll.ensures.returns _ i.c i.items i.holds) }; sound = run_sound i r; within = run_within i r },
     )

@@ -39,7 +39,7 @@ returns c = λ f h.
     let rs = records_in R (length records) in
     let s = some_lent _ _ c.lent.ensures c.in_ok-lent.was in
     let g : gathered c.in_ok-lent.lent.width (kinds_of es) records (walk (given_sheet c.args.run es c.in_ok-lent.lent)) ≡ gathered R (kinds_of es) records (walk (sheet h.items (kinds_of es) rs)) =
-    ap (λ (x : Records). gathered x.width (kinds_of es) records (walk (run_sheet c.args.run es x))) s.is ∙ ap (λ z. gathered R (kinds_of es) records (walk z)) (run_sheet_is h es rs) in
+    ap (λ (x : Records). gathered x.width (kinds_of es) records (walk (run_sheet c.args.run es x))) s.is ∙ ap (λ z. gathered R (kinds_of es) records (walk z)) (run_sheet_is c.args.run h es rs) in
     rw c.in_ok-wanted.was
     (walked R f good (kinds_of es) c.args.room records (right c.args.width) h.accepts refl (sym c.texts_fit.ensures ∙ c.if-not-texts_fit.false) s.some
     (c.read_pass.ensures.ends ∙ ap ending_of g) (λ cs n e. c.read_pass.ensures.found cs n (g ∙ e)))
