@@ -33,7 +33,7 @@ fn main(rt: HostRuntime) -> io::Result<()> {
             rt.write_all(line)?;
             println!(rt)?;
         } else {
-            cases::show_case(&rt, &Sheet::new(line, &mut lines))?;
+            cases::show_case(&rt, &Sheet::from_lines(line, &mut lines))?;
         }
     }
     Ok(())

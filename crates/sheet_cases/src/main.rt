@@ -16,7 +16,7 @@ fn main(rt: HostRuntime) -> io::Result<()> {
     let mut lines = Lines { rest: &input };
     // A case takes the lines after its first from the same `Lines`.
     while let Some(head) = lines.next_line() {
-        cases::show_case(&rt, &Sheet::new(head, &mut lines))?;
+        cases::show_case(&rt, &Sheet::from_lines(head, &mut lines))?;
     }
     Ok(())
 }
