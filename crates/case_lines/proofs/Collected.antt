@@ -5,7 +5,8 @@ use Rattle.std.specs.Iterator.{Yields}
 use Rattle.std.proofs.lemmas.List.Elements.{All-push}
 
 module _ {S X V E : Type 0} (steps : S → Option (Result X E) → S → Type 0) (Going : S → Type 0) (P : X → Type 0) (items : V → List X) (adds : V → Result X E → V → Type 0) where
-  -- P holds of each item of the vector, where it holds of each that the iterator gives
+  -- P holds of each item of the vector, where it holds of each that the iterator gives. (`Going` is what holds of the iterator before each
+  -- item; `adds` puts one into the vector.)
   pub all_collected : ((s : S) (x : X) (t : S) → Going s → steps s (Some (Ok x)) t → Going t × P x)
       → ((v : V) (r : Result X E) (w : V) → adds v r w → (x : X) × (Ok x ≡ r) × (items w ≡ items v ++ (x ∷ [])))
       → (rs : List (Result X E)) (s t : S) (v w : V) → Yields steps s rs t → FoldsTo adds v rs w

@@ -133,7 +133,7 @@ mod tests {
         }
     }
 
-    // All lines of these bytes, and none else, in vectors as in one buffer.
+    // Whether there are so many lines in vectors, and the same ones in one buffer.
     fn same_lines(rt: &HostRuntime, bytes: &[u8], count: usize) -> io::Result<bool> {
         let input = (Given::new(bytes), rt.alloc());
         let vectors = input_lines(&input)?;
@@ -160,7 +160,10 @@ mod tests {
             (b"R 4\nI 7\n.\n", 3),
         ];
         for (bytes, count) in inputs {
-            assert!(rt; same_lines(&rt, bytes, count)?);
+            assert!(rt;
+                same_lines(&rt, bytes, count)?,
+                "{count} lines of {bytes:?}"
+            );
         }
         Ok(())
     }
